@@ -74,6 +74,11 @@ value-append [] ys = rw pow-zero (omega arith)
 value-append (x ∷ xs) ys =
     rw (value-append xs ys, pow-succ' (2 ^ 32) (length xs)) (regroup (2 ^ 32) ((2 ^ 32) ^ length xs) (valueOfWords xs) (valueOfWords ys) x)
 
+pub words-append : (xs ys : List ℕ) → AreWords xs → AreWords ys → AreWords (xs ++ ys)
+words-append [] ys g h i = h i
+words-append (x ∷ xs) ys g h zero = g 0
+words-append (x ∷ xs) ys g h (suc i) = words-append xs ys (λ k. g (suc k)) h i
+
 pub words-take : (n : ℕ) (ws : List ℕ) → AreWords ws → AreWords (take n ws)
 words-take zero ws h i = lit< tt
 words-take (suc n) [] h i = lit< tt

@@ -52,6 +52,15 @@ value-below n g = halves-below (n .lo) (n .hi) (g .low) (g .high)
 
 -- ---- what a caller learns of a sum and of a difference
 
+pub record IsSum (a b n : Number) : Type 0 where
+  pub is : n ≡ numberOf (valueOf a + valueOf b)
+  pub value : valueOf n ≡ valueOf a + valueOf b
+  pub fits : valueOf a + valueOf b < range
+
+pub record IsDifference (a b n : Number) : Type 0 where
+  pub is : n ≡ numberOf (valueOf a - valueOf b)
+  pub value : valueOf n + valueOf b ≡ valueOf a
+
 module _ (a b : Number) where
   pub sum-total : valueOf a + valueOf b < range → sumOf a b ≡ Total (numberOf (valueOf a + valueOf b))
   unfolding sumOf
@@ -69,12 +78,17 @@ module _ (a b : Number) where
   unfolding differenceOf
   difference-below h = rw (lt-ltb _ _ h)
 
-  pub total-sum : (n : Number) → sumOf a b ≡ Total n → valueOf n ≡ valueOf a + valueOf b
+  pub total-sum : (n : Number) → sumOf a b ≡ Total n → IsSum a b n
   total-sum n e = go (decLt (valueOf a + valueOf b) range)
     where
-      go : Dec (valueOf a + valueOf b < range) → valueOf n ≡ valueOf a + valueOf b
-      go (yes h) = cc (sum-total h, valueOf-numberOf (valueOf a + valueOf b))
-      go (no h) = let k : range ≤ valueOf a + valueOf b = omega arith in cc (sum-over k)
+      is : valueOf a + valueOf b < range → n ≡ numberOf (valueOf a + valueOf b)
+      is h = cc (sum-total h)
+
+      go : Dec (valueOf a + valueOf b < range) → IsSum a b n
+      go (yes h) = record { is = is h; value = ap valueOf (is h) ∙ valueOf-numberOf (valueOf a + valueOf b); fits = h }
+      go (no h) =
+          let k : range ≤ valueOf a + valueOf b = omega arith in
+          absurd (let z : _≡_ {A = ℕ} 0 1 = cc (sum-over k) in omega arith)
 
   pub over-sum : sumOf a b ≡ Over → range ≤ valueOf a + valueOf b
   over-sum e = go (decLt (valueOf a + valueOf b) range)
@@ -83,15 +97,20 @@ module _ (a b : Number) where
       go (yes h) = absurd (let z : _≡_ {A = ℕ} 0 1 = cc (sum-total h) in omega arith)
       go (no h) = omega arith
 
-  pub rest-difference : (n : Number) → differenceOf a b ≡ Rest n → valueOf n + valueOf b ≡ valueOf a
+  pub rest-difference : (n : Number) → differenceOf a b ≡ Rest n → IsDifference a b n
   rest-difference n e = go (decLt (valueOf a) (valueOf b))
     where
-      go : Dec (valueOf a < valueOf b) → valueOf n + valueOf b ≡ valueOf a
-      go (yes h) = cc (difference-below h)
+      is : valueOf b ≤ valueOf a → n ≡ numberOf (valueOf a - valueOf b)
+      is h = cc (difference-rest h)
+
+      value : valueOf b ≤ valueOf a → valueOf n ≡ valueOf a - valueOf b
+      value h = ap valueOf (is h) ∙ valueOf-numberOf (valueOf a - valueOf b)
+
+      go : Dec (valueOf a < valueOf b) → IsDifference a b n
+      go (yes h) = absurd (let z : _≡_ {A = ℕ} 0 1 = cc (difference-below h) in omega arith)
       go (no h) =
           let k : valueOf b ≤ valueOf a = omega arith in
-          let m : valueOf n ≡ valueOf a - valueOf b = cc (difference-rest k, valueOf-numberOf (valueOf a - valueOf b)) in
-          omega arith
+          record { is = is k; value = omega (arith, value k) }
 
   pub below-difference : differenceOf a b ≡ Below → valueOf a < valueOf b
   below-difference e = go (decLt (valueOf a) (valueOf b))

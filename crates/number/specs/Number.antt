@@ -37,10 +37,8 @@ borrowOf a b = cond (ltb a b) 1 0
 
 -- the exact sum, or `Over` where 128 bits do not hold it
 unfoldable pub sumOf : Number → Number → Sum
-unfolding valueOf numberOf range
 sumOf a b = cond (ltb (valueOf a + valueOf b) range) (Total (numberOf (valueOf a + valueOf b))) Over
 
 -- the exact difference, or `Below` where it is less than zero
 unfoldable pub differenceOf : Number → Number → Difference
-unfolding valueOf numberOf
 differenceOf a b = cond (ltb (valueOf a) (valueOf b)) Below (Rest (numberOf (valueOf a - valueOf b)))

@@ -1,0 +1,75 @@
+-- `delta::DeltaOp::merge_with_previous_delta` meets its contract.
+-- Assumes nothing.
+use borrow.Author.Needs.{needs}
+use Rattle.number.specs.Number.{Halves}
+use Rattle.delta.proofs.Ops.{merged-limits, merged-high, merged-low, merged-never, merged-joined}
+use Rattle.delta.proofs.DeltaOp.merge_with_previous_delta.Statement.{statement}
+use Rattle.delta.proofs.DeltaOp.merge_with_previous_delta.Tie as tie
+
+eq-requires : tie.Need-eq-requires
+eq-requires c κs = search needs
+
+limit-halves : (c : tie.Start) → Halves (c .args .self .limit)
+limit-halves c = search needs
+
+returns : tie.Need-returns
+returns c = merged-limits _ _ _ (c .before .eq .ensures) (c .if1 .taken)
+
+reached-requires : tie.Need-reached-requires
+reached-requires c κs = search needs
+
+enum-known-top : tie.Need-enum-known-top
+enum-known-top c = search needs
+
+enum-told : tie.Need-enum-told
+enum-told c = search needs
+
+returns-2 : tie.Need-returns-2
+returns-2 c = merged-high _ _ _ (c .before .before .reached .ensures) (c .enum-told .given .1)
+
+reached-requires-2 : tie.Need-reached-requires-2
+reached-requires-2 c κs = search needs
+
+enum-known-bottom : tie.Need-enum-known-bottom
+enum-known-bottom c = search needs
+
+enum-told-2 : tie.Need-enum-told-2
+enum-told-2 c = search needs
+
+returns-3 : tie.Need-returns-3
+returns-3 c = merged-low _ _ _ (c .before .before .reached2 .ensures) (c .enum-told2 .given .1)
+
+add-signed-requires : tie.Need-add-signed-requires
+add-signed-requires c κs = search needs
+
+enum-known-sum : tie.Need-enum-known-sum
+enum-known-sum c = search needs
+
+enum-told-3 : tie.Need-enum-told-3
+enum-told-3 c = search needs
+
+returns-4 : tie.Need-returns-4
+returns-4 c = merged-never _ _ _ _ _ _ _ (c .before .before .before .before .before .before .before .before .before .before .before .before .before .before .before .before .before .before .eq .ensures) (c .before .before .before .before .before .before .before .before .before .before .before .before .before .before .before .before .before .if1 .left) (c .before .before .before .before .before .before .before .before .before .before .reached .ensures) (c .before .before .before .before .before .before .before .before .top .given .1) (c .before .before .before .before .before .before .reached2 .ensures) (c .before .before .before .before .bottom .given .1) _ (c .before .before .add-signed .ensures) (c .before .before .before .before .before .before .before .before .before .before .before .before .before .before .before .before .before .before .before .before .before .pre .0) (limit-halves (c .before .before .before .before .before .before .before .before .before .before .before .before .before .before .before .before .before .before .before .before .before)) (c .enum-told3 .given .1)
+
+returns-5 : tie.Need-returns-5
+returns-5 c = merged-joined _ _ _ _ _ _ _ (c .before .before .before .before .before .before .before .before .before .before .before .before .before .before .before .before .before .before .before .eq .ensures) (c .before .before .before .before .before .before .before .before .before .before .before .before .before .before .before .before .before .before .if1 .left) (c .before .before .before .before .before .before .before .before .before .before .before .reached .ensures) (c .before .before .before .before .before .before .before .before .before .top .given .1) (c .before .before .before .before .before .before .before .reached2 .ensures) (c .before .before .before .before .before .bottom .given .1) _ (c .before .before .before .add-signed .ensures) _ _ (limit-halves (c .before .before .before .before .before .before .before .before .before .before .before .before .before .before .before .before .before .before .before .before .before .before)) (c .before .sum .given .1)
+
+pub merge-with-previous-delta-spec : {M : Type 1} → statement M
+merge-with-previous-delta-spec =
+    tie.close
+    (tie.spec
+    eq-requires
+    returns
+    reached-requires
+    enum-known-top
+    enum-told
+    returns-2
+    reached-requires-2
+    enum-known-bottom
+    enum-told-2
+    returns-3
+    add-signed-requires
+    enum-known-sum
+    enum-told-3
+    returns-4
+    returns-5)

@@ -1,0 +1,7 @@
+mod Cases
+pub mod Format
+pub mod Gain
+pub mod Merging
+pub mod Ops
+pub mod Places
+pub mod Sums

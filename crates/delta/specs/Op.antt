@@ -1,0 +1,93 @@
+-- The code's `DeltaOp` and its answers, tied to the exact deltas of `Delta`.
+-- Assumes nothing.
+use mathlib.Core.Bool.{Bool, true, false, not, cond, _&&_}
+use mathlib.Core.List.{List}
+use mathlib.Core.Option.{Option, none, some}
+use Prim.Native.Nat.{ℕ}
+use lib.Dec.{eqb, leb, ltb}
+use lib.IntN.{ℤ, natAbs}
+use lib.ListN.{getD}
+use Rattle.number.specs.Number.{Halves, range, valueOf, numberOf}
+use Rattle.delta.specs.Delta.{Delta, valid, Accumulated, nothing, merged, failed, isMinus, signed, numberAt}
+use Rattle.delta.specs.declared.signed.Change.{Change}
+use Rattle.delta.specs.declared.signed.Change.the-variants.{To, Over}
+use Rattle.delta.specs.declared.signed.Reach.{Reach}
+use Rattle.delta.specs.declared.signed.Reach.the-variants.{Within, Beyond}
+use Rattle.delta.specs.declared.DeltaOp.{DeltaOp}
+use Rattle.delta.specs.declared.Applied.{Applied}
+use Rattle.delta.specs.declared.Applied.the-variants.{Value, Outside}
+use Rattle.delta.specs.declared.Merged.{Merged}
+use Rattle.delta.specs.declared.Merged.the-variants.{Joined, Apart}
+use Rattle.delta.specs.declared.Accumulator.{Accumulator}
+use Rattle.delta.specs.declared.Accumulator.the-variants.{Empty, Gathered, Failed}
+
+-- each number of the struct is two 64-bit halves: what a value of the code's type always is
+pub record AllHalves (o : DeltaOp) : Type 0 where
+  pub limit : Halves (o .limit)
+  pub high : Halves (o .high)
+  pub low : Halves (o .low)
+  pub update : Halves (o .update)
+
+-- the exact delta that a struct stands for
+unfoldable pub exact : DeltaOp → Delta
+exact o =
+    record {
+      limit = valueOf (o .limit);
+      high = valueOf (o .high);
+      low = valueOf (o .low);
+      update = signed (o .minus) (valueOf (o .update));
+    }
+
+-- the struct of a delta below `range`
+unfoldable pub opOf : Delta → DeltaOp
+opOf d =
+    record {
+      limit = numberOf (d .limit);
+      high = numberOf (d .high);
+      low = numberOf (d .low);
+      update = numberOf (natAbs (d .update));
+      minus = isMinus (d .update);
+    }
+
+-- the struct holds a delta: "minus zero is bad", and the delta is valid
+unfoldable pub validOp : DeltaOp → Bool
+validOp o = not (o .minus && eqb (valueOf (o .update)) 0) && valid (exact o)
+
+-- the struct that 17 words hold; a sign that is not 0 is minus
+unfoldable pub opAt : List ℕ → DeltaOp
+opAt ws =
+    record {
+      limit = numberOf (numberAt ws 0);
+      high = numberOf (numberAt ws 4);
+      low = numberOf (numberAt ws 8);
+      update = numberOf (numberAt ws 12);
+      minus = not (eqb (getD ws 16 0) 0);
+    }
+
+-- ---- the code's answers
+
+unfoldable pub appliedOf : Option ℕ → Applied
+appliedOf (some v) = Value (numberOf v)
+appliedOf none = Outside
+
+unfoldable pub mergedOf : Option Delta → Merged
+mergedOf (some d) = Joined (opOf d)
+mergedOf none = Apart
+
+unfoldable pub exactly : Accumulator → Accumulated
+exactly Empty = nothing
+exactly (Gathered o) = merged (exact o)
+exactly Failed = failed
+
+unfoldable pub accumulatorOf : Accumulated → Accumulator
+accumulatorOf nothing = Empty
+accumulatorOf (merged d) = Gathered (opOf d)
+accumulatorOf failed = Failed
+
+-- a signed number as the code gives it: its size, and whether it is below zero
+unfoldable pub changeOf : ℤ → Change
+changeOf z = cond (ltb (natAbs z) range) (To (numberOf (natAbs z)) (isMinus z)) Over
+
+-- a number within a limit, or the word that it is beyond
+unfoldable pub reachOf : ℕ → ℕ → Reach
+reachOf limit v = cond (leb v limit) (Within (numberOf v)) Beyond

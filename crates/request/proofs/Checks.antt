@@ -1,0 +1,122 @@
+-- What the shape of a request says of its length, and what the whole check says.
+use mathlib.Core.Path.{_≡_, refl, sym, ap, _∙_}
+use mathlib.Core.Bool.{Bool, true, false, not, cond, _&&_}
+use mathlib.Core.List.{List, [], _∷_}
+use Prim.Native.Nat.{ℕ, _+_, _*_, _≤_, _<_}
+use native.Mathlib.Omega.{arith}
+use lib.Dec.{eqb, ltb}
+use lib.ListN.{length, getD}
+use borrow.Author.Tests.{ltb-true, eqb-true, not-true, not-false}
+use Rattle.request.specs.Table.{rowOf}
+use Rattle.request.specs.Request.{rowAt, countOf, tags, shapeOk, fieldsOk, indexOk, refusalOf}
+use Rattle.request.specs.Fields.{kindAt, fieldsAt}
+use Rattle.request.specs.Checked.{checkOf}
+use Rattle.request.specs.declared.asked.Fields.{Fields}
+use Rattle.request.specs.declared.Checked.{Checked}
+use Rattle.request.specs.declared.Checked.the-variants.{Refused, Accepted}
+use Rattle.request.proofs.TableRule.{and-left, and-right}
+
+-- ---- lengths
+
+module _ (t : List ℕ) (s : shapeOk t ≡ true) where
+  both : (ltb (rowAt t .fixed) (length t) && eqb (length t) (countOf t + 1)) ≡ true
+  unfolding shapeOk
+  both = and-left _ _ s
+
+  pub shape-whole : rowAt t .fixed < length t
+  shape-whole = ltb-true _ _ (and-left _ _ both)
+
+  pub shape-length : length t ≡ rowAt t .fixed + rowAt t .each * length (tags t) + 1
+  unfolding shapeOk
+  shape-length =
+      eqb-true _ _ (and-right (ltb (rowAt t .fixed) (length t)) _ both)
+      ∙ ap (λ (n : ℕ). n + 1) (eqb-true _ _ (and-right (ltb (rowAt t .fixed) (length t) && eqb (length t) (countOf t + 1)) _ s))
+
+-- ---- the refusal, from the three tests
+
+module _ (t : List ℕ) (a : Bool) (s : a ≡ shapeOk t) where
+  pub check-shape : not a ≡ true → Refused 2 ≡ checkOf t
+  unfolding checkOf refusalOf
+  check-shape h = rw (sym s ∙ not-true a h) refl
+
+  module _ (shaped : not a ≡ false) where
+    pub shape-true : shapeOk t ≡ true
+    shape-true = sym s ∙ not-false a shaped
+
+    module _ (b : Bool) (f : b ≡ fieldsOk (rowAt t .kind) t) where
+      pub check-fields : not b ≡ true → Refused 3 ≡ checkOf t
+      unfolding checkOf refusalOf
+      check-fields h = rw (shape-true, sym f ∙ not-true b h) refl
+
+      module _ (ruled : not b ≡ false) (c : Bool) (i : c ≡ indexOk t) where
+        pub check-index : not c ≡ true → Refused 4 ≡ checkOf t
+        unfolding checkOf refusalOf
+        check-index h = rw (shape-true, sym f ∙ not-false b ruled, sym i ∙ not-true c h) refl
+
+        pub check-accepted : not c ≡ false → (g : Fields) → g ≡ fieldsAt t → Accepted g ≡ checkOf t
+        unfolding checkOf refusalOf
+        check-accepted h g e = rw (shape-true, sym f ∙ not-false b ruled, sym i ∙ not-false c h, e) refl
+
+-- ---- what a caller of the check learns
+
+pub record Passed (t : List ℕ) (f : Fields) : Type 0 where
+  pub refusal : refusalOf t ≡ 0
+  pub shape : shapeOk t ≡ true
+  pub rules : fieldsOk (rowAt t .kind) t ≡ true
+  pub served : indexOk t ≡ true
+  pub fields : f ≡ fieldsAt t
+
+refusalBy : Bool → Bool → Bool → ℕ
+refusalBy a b c = cond a (cond b (cond c 0 4) 3) 2
+
+none-shape : (a b c : Bool) → refusalBy a b c ≡ 0 → a ≡ true
+unfolding refusalBy
+none-shape true b c e = refl
+none-shape false b c e = absurd (omega arith)
+
+none-fields : (a b c : Bool) → refusalBy a b c ≡ 0 → b ≡ true
+unfolding refusalBy
+none-fields a true c e = refl
+none-fields true false c e = absurd (omega arith)
+none-fields false false c e = absurd (omega arith)
+
+none-index : (a b c : Bool) → refusalBy a b c ≡ 0 → c ≡ true
+unfolding refusalBy
+none-index a b true e = refl
+none-index true true false e = absurd (omega arith)
+none-index true false false e = absurd (omega arith)
+none-index false b false e = absurd (omega arith)
+
+by-accepted : (b : Bool) (n : ℕ) (g f : Fields) → eqb n 0 ≡ b → cond b (Accepted g) (Refused n) ≡ Accepted f → n ≡ 0
+by-accepted true n g f e h = eqb-true n 0 e
+by-accepted false n g f e h = absurd (let z : _≡_ {A = ℕ} 0 1 = cc in omega arith)
+
+by-fields : (b : Bool) (n : ℕ) (g f : Fields) → cond b (Accepted g) (Refused n) ≡ Accepted f → f ≡ g
+by-fields true n g f h = cc
+by-fields false n g f h = absurd (let z : _≡_ {A = ℕ} 0 1 = cc in omega arith)
+
+by-refused : (b : Bool) (n m : ℕ) (g : Fields) → cond b (Accepted g) (Refused n) ≡ Refused m → n ≡ m
+by-refused true n m g h = absurd (let z : _≡_ {A = ℕ} 0 1 = cc in omega arith)
+by-refused false n m g h = cc
+
+module _ (t : List ℕ) where
+  refusal-parts : refusalOf t ≡ refusalBy (shapeOk t) (fieldsOk (rowAt t .kind) t) (indexOk t)
+  unfolding refusalOf refusalBy
+  refusal-parts = refl
+
+  pub refused-number : (n : ℕ) → checkOf t ≡ Refused n → refusalOf t ≡ n
+  unfolding checkOf
+  refused-number n h = by-refused (eqb (refusalOf t) 0) (refusalOf t) n (fieldsAt t) h
+
+  pub accepted-passed : (f : Fields) → checkOf t ≡ Accepted f → Passed t f
+  unfolding checkOf
+  accepted-passed f h =
+      let z : refusalOf t ≡ 0 = by-accepted (eqb (refusalOf t) 0) (refusalOf t) (fieldsAt t) f refl h in
+      let p : refusalBy (shapeOk t) (fieldsOk (rowAt t .kind) t) (indexOk t) ≡ 0 = sym refusal-parts ∙ z in
+      record {
+        refusal = z;
+        shape = none-shape (shapeOk t) (fieldsOk (rowAt t .kind) t) (indexOk t) p;
+        rules = none-fields (shapeOk t) (fieldsOk (rowAt t .kind) t) (indexOk t) p;
+        served = none-index (shapeOk t) (fieldsOk (rowAt t .kind) t) (indexOk t) p;
+        fields = by-fields (eqb (refusalOf t) 0) (refusalOf t) (fieldsAt t) f h;
+      }

@@ -1,0 +1,10 @@
+pub mod Tags
+pub mod TableRule
+pub mod Shapes
+pub mod FieldRules
+pub mod Indexes
+pub mod KindNumbers
+pub mod WordFields
+pub mod Asks
+pub mod Checks
+pub mod KindRules

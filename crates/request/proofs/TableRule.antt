@@ -1,0 +1,79 @@
+-- The rule of the code's table: it is the table of `specs/`, row by row.
+use mathlib.Core.Path.{_≡_, refl}
+use mathlib.Core.Bool.{Bool, true, false, _&&_}
+use mathlib.Core.List.{List, [], _∷_, map}
+use mathlib.Core.Option.{Option, none, some}
+use Prim.Native.Nat.{ℕ, zero, suc, _<_, _≤_}
+use native.Mathlib.Omega.{arith}
+use lib.Dec.{ltb, leb}
+use lib.ListN.{length, getD}
+use borrow.Author.Tests.{ltb-true, leb-true}
+use Rattle.request.specs.Table.{IndexField, Row, LastCommitted, row, table, rowOf}
+use Rattle.request.specs.Table.{at}
+use Rattle.request.specs.Request.{lastIndex}
+use Rattle.request.specs.Rows.{placeOf, lastOf, layout}
+use Rattle.request.specs.declared.table.Row.{Row as CodeRow}
+
+getD-map : {A B : Type 0} (f : A → B) (l : List A) (i : ℕ) (a : A) (b : B) → i < length l → getD (map f l) i b ≡ f (getD l i a)
+getD-map f [] i a b h = absurd (omega arith)
+getD-map f (x ∷ l) zero a b h = refl
+getD-map f (x ∷ l) (suc i) a b h = getD-map f l i a b (omega arith)
+
+pub code-row : (rows : List CodeRow) → rows ≡ map layout table → (d : CodeRow) (k : ℕ) → k < 16 → getD rows k d ≡ layout (rowOf k)
+unfolding table rowOf
+code-row rows e d k h = rw e (getD-map layout table k (row LastCommitted 1 0 none) d h)
+
+-- What holds of each row holds of the row of any number.
+every : (Row → Bool) → List Row → Bool
+every f [] = true
+every f (r ∷ rs) = f r && every f rs
+
+pub and-left : (a b : Bool) → (a && b) ≡ true → a ≡ true
+and-left true b e = refl
+and-left false b e = e
+
+pub and-right : (a b : Bool) → (a && b) ≡ true → b ≡ true
+and-right true b e = e
+and-right false b e = cc
+
+every-getD : (f : Row → Bool) (rs : List Row) (d : Row) → every f rs ≡ true → f d ≡ true → (k : ℕ) → f (getD rs k d) ≡ true
+unfolding every
+every-getD f [] d e g k = g
+every-getD f (r ∷ rs) d e g zero = and-left (f r) (every f rs) e
+every-getD f (r ∷ rs) d e g (suc k) = every-getD f rs d (and-right (f r) (every f rs) e) g k
+
+-- An index never stands in the head's place.
+unfoldable pub hasPlace : Option IndexField → Bool
+hasPlace none = true
+hasPlace (some f) = ltb 0 (f .place)
+
+pub record Bounds (r : Row) : Type 0 where
+  pub fixed-pos : 0 < r .fixed
+  pub fixed-le : r .fixed ≤ 19
+  pub each-le : r .each ≤ 7
+  pub place-le : placeOf (r .index) ≤ r .fixed
+  pub placed : hasPlace (r .index) ≡ true
+
+within : Row → Bool
+within r = ltb 0 (r .fixed) && (leb (r .fixed) 19 && (leb (r .each) 7 && (leb (placeOf (r .index)) (r .fixed) && hasPlace (r .index))))
+
+rows-within : (k : ℕ) → within (rowOf k) ≡ true
+unfolding every within rowOf table row at placeOf hasPlace
+rows-within k = every-getD within table (row LastCommitted 1 0 none) refl refl k
+
+within-bounds : (r : Row) → within r ≡ true → Bounds r
+unfolding within
+within-bounds r e =
+    let f = and-right (ltb 0 (r .fixed)) _ e in
+    let g = and-right (leb (r .fixed) 19) _ f in
+    let h = and-right (leb (r .each) 7) _ g in
+    record {
+      fixed-pos = ltb-true 0 (r .fixed) (and-left _ _ e);
+      fixed-le = leb-true (r .fixed) 19 (and-left _ _ f);
+      each-le = leb-true (r .each) 7 (and-left _ _ g);
+      place-le = leb-true (placeOf (r .index)) (r .fixed) (and-left _ _ h);
+      placed = and-right (leb (placeOf (r .index)) (r .fixed)) _ h;
+    }
+
+pub row-bounds : (k : ℕ) → Bounds (rowOf k)
+row-bounds k = within-bounds (rowOf k) (rows-within k)

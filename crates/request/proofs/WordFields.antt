@@ -1,0 +1,52 @@
+-- The fields of a request that are single words, from the tests that the code makes on its kind.
+use mathlib.Core.Path.{_≡_, refl, sym, ap, _∙_}
+use mathlib.Core.List.{List}
+use Prim.Native.Nat.{ℕ, _<_}
+use lib.ListN.{length, getD}
+use borrow.Author.Tests.{eq-eqb, ne-eqb}
+use Rattle.request.specs.Table.{rowOf}
+use Rattle.request.specs.Request.{rowAt}
+use Rattle.request.specs.Fields.{kindAt, indexAt, setAt, incarnationAs, tagAs, fieldsAt}
+use Rattle.request.specs.declared.asked.Fields.{Fields}
+use Rattle.request.specs.declared.set.Set.{Set}
+use Rattle.request.proofs.KindNumbers.{row-named}
+
+module _ (t : List ℕ) (kind : ℕ) (e : kind ≡ kindAt t) where
+  -- How many words there are before the values, by the kind's number.
+  pub fixed-named : (n : ℕ) → kind ≡ n → rowAt t .fixed < length t → rowOf n .fixed < length t
+  fixed-named n f h = rw (row-named t kind e n f) at h
+
+  pub incarnation-write : kind ≡ 2 → getD t 3 0 ≡ incarnationAs (kindAt t) t
+  unfolding incarnationAs
+  incarnation-write f = rw (eq-eqb (kindAt t) 2 (sym e ∙ f)) refl
+
+  module _ (not-write : kind ≡ 2 → ⊥) where
+    pub incarnation-group : kind ≡ 10 → getD t 3 0 ≡ incarnationAs (kindAt t) t
+    unfolding incarnationAs
+    incarnation-group f = rw (ne-eqb (kindAt t) 2 (λ g. not-write (e ∙ g)), eq-eqb (kindAt t) 10 (sym e ∙ f)) refl
+
+    pub incarnation-none : (kind ≡ 10 → ⊥) → 0 ≡ incarnationAs (kindAt t) t
+    unfolding incarnationAs
+    incarnation-none f = rw (ne-eqb (kindAt t) 2 (λ g. not-write (e ∙ g)), ne-eqb (kindAt t) 10 (λ g. f (e ∙ g))) refl
+
+  pub tag-exchange : kind ≡ 9 → getD t 2 0 ≡ tagAs (kindAt t) t
+  unfolding tagAs
+  tag-exchange f = rw (eq-eqb (kindAt t) 9 (sym e ∙ f)) refl
+
+  module _ (not-exchange : kind ≡ 9 → ⊥) where
+    pub tag-fetch : kind ≡ 13 → getD t 2 0 ≡ tagAs (kindAt t) t
+    unfolding tagAs
+    tag-fetch f = rw (ne-eqb (kindAt t) 9 (λ g. not-exchange (e ∙ g)), eq-eqb (kindAt t) 13 (sym e ∙ f)) refl
+
+    pub tag-none : (kind ≡ 13 → ⊥) → 0 ≡ tagAs (kindAt t) t
+    unfolding tagAs
+    tag-none f = rw (ne-eqb (kindAt t) 9 (λ g. not-exchange (e ∙ g)), ne-eqb (kindAt t) 13 (λ g. f (e ∙ g))) refl
+
+pub fields-are : (t : List ℕ) (kind index incarnation tag : ℕ) (set : Set) → kind ≡ kindAt t → index ≡ indexAt t
+    → incarnation ≡ incarnationAs (kindAt t) t → tag ≡ tagAs (kindAt t) t → set ≡ setAt t
+    → _≡_ {A = Fields}
+    (record { kind = kind; key = getD t 1 0; index = index; incarnation = incarnation; tag = tag; set = set })
+    (fieldsAt t)
+unfolding fieldsAt
+fields-are t kind index incarnation tag set a b c d e =
+    λ i. record { kind = a i; key = getD t 1 0; index = b i; incarnation = c i; tag = d i; set = e i }

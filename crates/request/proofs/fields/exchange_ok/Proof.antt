@@ -1,0 +1,40 @@
+use borrow.Author.Needs.{needs}
+use mathlib.Core.Path.{ap, _∙_}
+use Rattle.types.specs.Value.{isDeletion}
+use Rattle.types.proofs.Values.{read-words}
+use Rattle.request.proofs.FieldRules.{exchange-tag, exchange-value, exchange-deletion}
+use Rattle.request.proofs.fields.exchange_ok.Statement.{statement}
+use Rattle.request.proofs.fields.exchange_ok.Tie as tie
+
+shared-slice-read-if1 : tie.Need-shared-slice-read-if1
+shared-slice-read-if1 c = search needs
+
+returns : tie.Need-returns
+returns c = exchange-tag _ (c .if1 .taken)
+
+side-ok-requires : tie.Need-side-ok-requires
+side-ok-requires c κs = search needs
+
+returns-2 : tie.Need-returns-2
+returns-2 c = exchange-value _ (c .before .before .if1 .left) _ (c .before .side-ok .ensures) (c .if2 .taken)
+
+read-requires : tie.Need-read-requires
+read-requires c κs = search needs
+
+is-deletion-requires : tie.Need-is-deletion-requires
+is-deletion-requires c κs = search needs
+
+returns-3 : tie.Need-returns-3
+returns-3 c = exchange-deletion _ (c .before .before .before .before .if1 .left) _ (c .before .before .before .side-ok .ensures) (c .before .before .if2 .left) _ (c .is-deletion .ensures ∙ ap isDeletion (read-words _ _ _ (λ i. c .before .before .before .before .before .before .shared-slice-known .given i .fits) (c .before .before .before .before .before .before .before .pre) (c .before .read .ensures)))
+
+pub exchange-ok-spec : {M : Type 1} → statement M
+exchange-ok-spec =
+    tie.close
+    (tie.spec
+    shared-slice-read-if1
+    returns
+    side-ok-requires
+    returns-2
+    read-requires
+    is-deletion-requires
+    returns-3)

@@ -1,0 +1,22 @@
+use mathlib.Core.Path.{refl}
+use borrow.Author.Needs.{needs}
+use Rattle.request.specs.Table.{at, row, table}
+use Rattle.request.specs.Request.{lastIndex}
+use Rattle.request.specs.Rows.{placeOf, lastOf}
+use Rattle.request.proofs.TableRule.{code-row}
+use Rattle.request.proofs.table.row_of.Statement.{statement}
+use Rattle.request.proofs.table.row_of.Tie as tie
+
+mul-result : tie.Need-mul-result
+mul-result c = search needs
+
+array-copy-out-result : tie.Need-array-copy-out-result
+array-copy-out-result c = search needs
+
+-- The rule over the whole table is one equation, which antt computes.
+returns : tie.Need-returns
+unfolding table row at placeOf lastOf lastIndex
+returns c = code-row _ refl _ _ (c .before .pre)
+
+pub row-of-spec : {M : Type 1} → statement M
+row-of-spec = tie.close (tie.spec mul-result array-copy-out-result returns)

@@ -1,0 +1,87 @@
+-- Comparing a slot's first four words, word by word as they are read.
+-- Assumes nothing.
+use mathlib.Core.Path.{_≡_, refl, sym, _∙_, ap}
+use mathlib.Core.Bool.{Bool, true, false, not, _&&_, _||_}
+use mathlib.Core.List.{List, [], _∷_}
+use Prim.Native.Nat.{ℕ, zero, suc, _+_, _*_, _≤_, _<_}
+use native.Mathlib.Omega.{arith}
+use lib.Dec.{ltb, eqb}
+use lib.ListN.{length, getD, take}
+use borrow.Author.Tests.{eq-eqb, ne-eqb, le-ltb}
+use Rattle.store.specs.Slots.{Slot, slotWidth, slotsIn, slotAt, isUsed, before, isBefore, same, isAt}
+use Rattle.store.proofs.Lists.{and-swap}
+use Rattle.store.proofs.Words.{slot-inside, length-slotAt, slotAt-word}
+
+or-false : (a : Bool) → (a || false) ≡ a
+or-false true = refl
+or-false false = refl
+
+pub before-differs : (x a : ℕ) (xs ys : List ℕ) → (x ≡ a → ⊥) → ltb x a ≡ before (x ∷ xs) (a ∷ ys)
+unfolding before
+before-differs x a xs ys h = rw (ne-eqb x a h) (sym (or-false (ltb x a)))
+
+pub before-next : (x a : ℕ) (xs ys : List ℕ) (r : Bool) → x ≡ a → r ≡ before xs ys → r ≡ before (x ∷ xs) (a ∷ ys)
+unfolding before
+before-next x a xs ys r h e = rw (le-ltb x a (omega arith), eq-eqb x a h) e
+
+pub before-last : (x a : ℕ) → ltb x a ≡ before (x ∷ []) (a ∷ [])
+unfolding before
+before-last x a = go (eqb x a)
+  where
+    go : (b : Bool) → ltb x a ≡ (ltb x a || b && false)
+    go true = sym (or-false (ltb x a))
+    go false = sym (or-false (ltb x a))
+
+first-four : (u : Slot) → 4 ≤ length u → take 4 u ≡ getD u 0 0 ∷ getD u 1 0 ∷ getD u 2 0 ∷ getD u 3 0 ∷ []
+first-four [] h = absurd (omega arith)
+first-four (x ∷ []) h = absurd (omega arith)
+first-four (x ∷ y ∷ []) h = absurd (omega arith)
+first-four (x ∷ y ∷ z ∷ []) h = absurd (omega arith)
+first-four (x ∷ y ∷ z ∷ t ∷ u) h = refl
+
+module _ (i : ℕ) (s : List ℕ) (h : i < slotsIn (length s)) where
+  pub slot-four : (x y z t : ℕ) → x ≡ getD s (slotWidth * i + 0) 0 → y ≡ getD s (slotWidth * i + 1) 0 → z ≡ getD s (slotWidth * i + 2) 0 → t ≡ getD s (slotWidth * i + 3) 0 →
+      take 4 (slotAt i s) ≡ x ∷ y ∷ z ∷ t ∷ []
+  slot-four x y z t e f g k =
+      first-four (slotAt i s) (rw (length-slotAt i s (slot-inside i (length s) h)) (omega arith))
+      ∙ rw (slotAt-word i 0 s (omega arith), slotAt-word i 1 s (omega arith), slotAt-word i 2 s (omega arith), slotAt-word i 3 s (omega arith), e, f, g, k)
+
+  pub used-word : isUsed (slotAt i s) ≡ not (eqb (getD s (slotWidth * i + 0) 0) 0)
+  unfolding isUsed
+  used-word = rw (slotAt-word i 0 s (omega arith))
+
+  pub unused-before : (k : List ℕ) → getD s (slotWidth * i + 0) 0 ≡ 0 → false ≡ (isUsed (slotAt i s) && before (take 4 (slotAt i s)) k)
+  unused-before k e = rw (used-word, e)
+
+  pub used-before : (k : List ℕ) (x y z t : ℕ) (r : Bool) → x ≡ getD s (slotWidth * i + 0) 0 → y ≡ getD s (slotWidth * i + 1) 0 → z ≡ getD s (slotWidth * i + 2) 0 → t ≡ getD s (slotWidth * i + 3) 0 →
+      (x ≡ 0 → ⊥) → r ≡ before (x ∷ y ∷ z ∷ t ∷ []) k → r ≡ (isUsed (slotAt i s) && before (take 4 (slotAt i s)) k)
+  used-before k x y z t r e f g m n p =
+      rw (used-word, ← e, ne-eqb x 0 n, slot-four x y z t e f g m) p
+
+  -- a slot at a place: the first word that differs says no, and the last decides
+  module _ (a b c d : ℕ) where
+    at-words : isAt (a ∷ b ∷ c ∷ d ∷ []) (slotAt i s) ≡
+        (eqb (getD s (slotWidth * i + 0) 0) a && (eqb (getD s (slotWidth * i + 1) 0) b && (eqb (getD s (slotWidth * i + 2) 0) c && (eqb (getD s (slotWidth * i + 3) 0) d && true))))
+    unfolding isAt same
+    at-words = rw (slot-four _ _ _ _ refl refl refl refl)
+
+    pub at-first : (x : ℕ) → x ≡ getD s (slotWidth * i + 0) 0 → (x ≡ a → ⊥) → false ≡ isAt (a ∷ b ∷ c ∷ d ∷ []) (slotAt i s)
+    at-first x e f = rw (at-words, ← e, ne-eqb x a f)
+
+    module _ (x : ℕ) (ex : x ≡ getD s (slotWidth * i + 0) 0) (ax : x ≡ a) (y : ℕ) (ey : y ≡ getD s (slotWidth * i + 1) 0) where
+      pub at-second : (y ≡ b → ⊥) → false ≡ isAt (a ∷ b ∷ c ∷ d ∷ []) (slotAt i s)
+      at-second f = rw (at-words, ← ex, ← ey, eq-eqb x a ax, ne-eqb y b f)
+
+      module _ (ay : y ≡ b) (z : ℕ) (ez : z ≡ getD s (slotWidth * i + 2) 0) where
+        pub at-third : (z ≡ c → ⊥) → false ≡ isAt (a ∷ b ∷ c ∷ d ∷ []) (slotAt i s)
+        at-third f = rw (at-words, ← ex, ← ey, ← ez, eq-eqb x a ax, eq-eqb y b ay, ne-eqb z c f)
+
+        pub at-fourth : z ≡ c → (t : ℕ) → t ≡ getD s (slotWidth * i + 3) 0 → eqb t d ≡ isAt (a ∷ b ∷ c ∷ d ∷ []) (slotAt i s)
+        at-fourth az t et =
+            rw (at-words, ← ex, ← ey, ← ez, ← et, eq-eqb x a ax, eq-eqb y b ay, eq-eqb z c az) (and-swap true (eqb t d))
+
+  pub is-before-words : (j : ℕ) (r : Bool) (x y z t a b c d : ℕ) → j < slotsIn (length s) →
+      x ≡ getD s (slotWidth * i + 0) 0 → y ≡ getD s (slotWidth * i + 1) 0 → z ≡ getD s (slotWidth * i + 2) 0 → t ≡ getD s (slotWidth * i + 3) 0 →
+      take 4 (slotAt j s) ≡ a ∷ b ∷ c ∷ d ∷ [] → r ≡ before (x ∷ y ∷ z ∷ t ∷ []) (a ∷ b ∷ c ∷ d ∷ []) → r ≡ isBefore (slotAt i s) (slotAt j s)
+  unfolding isBefore
+  is-before-words j r x y z t a b c d g e f k m n p = rw (slot-four x y z t e f k m, n) p

@@ -1,0 +1,9 @@
+pub mod Lists
+pub mod Words
+pub mod Encode
+pub mod Edits
+pub mod Order
+pub mod Place
+pub mod Compare
+pub mod Moves
+pub mod Scans

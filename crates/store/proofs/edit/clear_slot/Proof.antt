@@ -1,0 +1,76 @@
+-- `store::edit::clear_slot` meets its contract: after j turns, j words are cleared.
+-- Assumes nothing.
+use borrow.Author.Needs.{needs}
+use native.Mathlib.Omega.{arith}
+use mathlib.Core.Path.{_≡_, refl, sym, _∙_, ap}
+use mathlib.Core.Bool.{Bool, true, false, _&&_}
+use mathlib.Core.List.{[], _∷_}
+use Prim.Native.Nat.{ℕ, _+_, _-_, _*_, _≤_, _<_}
+use lib.ListN.{length, length-set, drop, take, getD, replicate}
+use Rattle.store.specs.Slots.{slotsIn}
+use Rattle.store.proofs.Moves.{copied, copied-none, copied-written, clear-turn}
+use Rattle.store.proofs.edit.clear_slot.Statement.{statement}
+use Rattle.store.proofs.edit.clear_slot.Tie as tie
+
+abbrev Inv-loop : tie.InvT-loop
+Inv-loop s₀ i at j₀ s j = (j ≤ 32) × (s ≡ copied s₀ at (replicate 32 0) j) × (length s ≡ length s₀)
+
+abbrev μ-loop : tie.MeasureT-loop
+μ-loop s₀ i at j₀ s j = 32 - j
+
+mul-at : tie.Need-mul-at Inv-loop μ-loop
+unfolding slotsIn
+mul-at c = search needs
+
+loop-holds : tie.Need-loop-holds Inv-loop μ-loop
+unfolding slotsIn
+loop-holds c = (omega arith, copied-none _ _ _, refl)
+
+add-s : tie.Need-add-s Inv-loop μ-loop
+unfolding slotsIn
+add-s c = search needs
+
+mul-s : tie.Need-mul-s Inv-loop μ-loop
+unfolding slotsIn
+mul-s c = search needs
+
+slice-write-s : tie.Need-slice-write-s Inv-loop μ-loop
+unfolding slotsIn
+slice-write-s c = search needs
+
+add-j : tie.Need-add-j Inv-loop μ-loop
+unfolding slotsIn
+add-j c = search needs
+
+loop-less : tie.Need-loop-less Inv-loop μ-loop
+unfolding slotsIn
+loop-less c = search needs
+
+loop-again : tie.Need-loop-again Inv-loop μ-loop
+unfolding slotsIn
+loop-again c = (omega arith, clear-turn _ _ _ 32 _ (c .before .loop .inv .1) (omega arith) (omega arith), simp length-set (c .before .loop .inv .2))
+
+same-length : tie.Need-same-length Inv-loop μ-loop
+unfolding slotsIn
+same-length c = search needs
+
+returns : tie.Need-returns Inv-loop μ-loop
+unfolding slotsIn
+returns c = copied-written _ _ _ _ _ (c .before .loop .inv .1) (omega arith) refl
+
+pub clear-slot-spec : {M : Type 1} → statement M
+clear-slot-spec =
+    tie.close
+    (tie.spec
+    Inv-loop
+    μ-loop
+    mul-at
+    loop-holds
+    add-s
+    mul-s
+    slice-write-s
+    add-j
+    loop-less
+    loop-again
+    same-length
+    returns)

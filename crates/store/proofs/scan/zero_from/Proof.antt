@@ -1,0 +1,31 @@
+-- `store::scan::zero_from` meets its contract.
+-- Assumes nothing.
+use native.Mathlib.Omega.{arith}
+use borrow.Author.Needs.{needs}
+use denote.Ref.{now}
+use Rattle.store.specs.Slots.{slotsIn}
+use Rattle.store.proofs.Scans.{zero-slots}
+use Rattle.store.proofs.scan.zero_from.Statement.{statement}
+use Rattle.store.proofs.scan.zero_from.Tie as tie
+
+slot-count-requires : tie.Need-slot-count-requires
+slot-count-requires c κs = search needs
+
+mul-all-zero : tie.Need-mul-all-zero
+unfolding slotsIn
+mul-all-zero c = search needs
+
+mul-all-zero-2 : tie.Need-mul-all-zero-2
+unfolding slotsIn
+mul-all-zero-2 c = search needs
+
+all-zero-requires : tie.Need-all-zero-requires
+unfolding slotsIn
+all-zero-requires c κs = search needs
+
+returns : tie.Need-returns
+returns c = zero-slots (now (c .before .before .before .args .s)) (c .before .before .before .args .n) _ _ (c .before .slot-count .ensures) (c .all-zero .ensures)
+
+pub zero-from-spec : {M : Type 1} → statement M
+zero-from-spec =
+    tie.close (tie.spec slot-count-requires mul-all-zero mul-all-zero-2 all-zero-requires returns)

@@ -1,0 +1,131 @@
+-- A store in lent words: slots (01: units) of 32 words, those in use packed at the front in rising order, then zeros. Both stores are laid out so.
+-- 01: "A store of W words has W / 32 units, rounded down, at most 4,096; all zero is empty."
+use mathlib.Core.Bool.{Bool, true, false, cond, not, _&&_, _||_}
+use mathlib.Core.List.{List, [], _∷_, _++_}
+use Prim.Native.Nat.{ℕ, zero, suc, _+_, _-_, _*_, _/_, min}
+use lib.Dec.{ltb, eqb}
+use lib.ListN.{length, getD, take, drop, replicate}
+
+abbrev pub Slot : Type 0
+Slot = List ℕ
+
+abbrev pub slotWidth : ℕ
+slotWidth = 32
+
+unfoldable pub slotsIn : ℕ → ℕ
+slotsIn w = min (w / slotWidth) 4096
+
+-- The words of slots, one slot after the other.
+unfoldable pub flat : List Slot → List ℕ
+flat [] = []
+flat (u ∷ us) = u ++ flat us
+
+-- The words of a store that holds `us`, where `s` is any store of that length: the slots, zeros in the other slots, and the words past the last
+-- slot, which are never touched.
+unfoldable pub encode : List ℕ → List Slot → List ℕ
+encode s us = flat us ++ (replicate (slotWidth * (slotsIn (length s) - length us)) 0 ++ drop (slotWidth * slotsIn (length s)) s)
+
+-- The first n slots of a list of words.
+unfoldable pub slots : ℕ → List ℕ → List Slot
+slots zero s = []
+slots (suc n) s = take slotWidth s ∷ slots n (drop slotWidth s)
+
+-- The words of slot i.
+unfoldable pub slotAt : ℕ → List ℕ → Slot
+slotAt i s = take slotWidth (drop (slotWidth * i) s)
+
+unfoldable pub isWhole : Slot → Bool
+isWhole u = eqb (length u) slotWidth
+
+-- A slot is in use where its first word is not 0.
+unfoldable pub isUsed : Slot → Bool
+isUsed u = not (eqb (getD u 0 0) 0)
+
+-- The elements at the front that pass a test.
+unfoldable pub front : {A : Type 0} → (A → Bool) → List A → List A
+front p [] = []
+front p (x ∷ xs) = cond (p x) (x ∷ front p xs) []
+
+-- The slots in use at the front of a store.
+unfoldable pub held : List ℕ → List Slot
+held s = front isUsed (slots (slotsIn (length s)) s)
+
+-- Slots are ordered by their first four words, the first of them first.
+unfoldable pub before : List ℕ → List ℕ → Bool
+before [] ys = false
+before (x ∷ xs) [] = false
+before (x ∷ xs) (y ∷ ys) = ltb x y || eqb x y && before xs ys
+
+unfoldable pub isBefore : Slot → Slot → Bool
+isBefore u v = before (take 4 u) (take 4 v)
+
+unfoldable pub same : List ℕ → List ℕ → Bool
+same [] [] = true
+same [] (y ∷ ys) = false
+same (x ∷ xs) [] = false
+same (x ∷ xs) (y ∷ ys) = eqb x y && same xs ys
+
+-- A slot stands at the place that its first four words give.
+unfoldable pub isAt : List ℕ → Slot → Bool
+isAt k u = same (take 4 u) k
+
+unfoldable pub every : {A : Type 0} → (A → Bool) → List A → Bool
+every p [] = true
+every p (x ∷ xs) = p x && every p xs
+
+-- Each slot stands before all later ones.
+unfoldable pub ordered : List Slot → Bool
+ordered [] = true
+ordered (u ∷ us) = every (isBefore u) us && ordered us
+
+-- Each slot and the next one pass a test.
+unfoldable pub neighbours : (Slot → Slot → Bool) → List Slot → Bool
+neighbours q [] = true
+neighbours q (u ∷ []) = true
+neighbours q (u ∷ v ∷ us) = q u v && neighbours q (v ∷ us)
+
+-- Slot i and the one before it pass a test; the first has none before it.
+unfoldable pub joined : (Slot → Slot → Bool) → ℕ → List ℕ → Bool
+joined q zero s = true
+joined q (suc i) s = q (slotAt i s) (slotAt (suc i) s)
+
+unfoldable pub allZero : List ℕ → Bool
+allZero [] = true
+allZero (w ∷ ws) = eqb w 0 && allZero ws
+
+-- The slots from n on are zero.
+unfoldable pub isZeroFrom : ℕ → List ℕ → Bool
+isZeroFrom n s = allZero (take (slotWidth * (slotsIn (length s) - n)) (drop (slotWidth * n) s))
+
+-- What is not in use at the front is zero, and the slots in use are in order.
+unfoldable pub packed : List ℕ → Bool
+packed s = isZeroFrom (length (held s)) s && ordered (held s)
+
+-- What a scan of a store decides, for a test of one slot and a test of two neighbours.
+unfoldable pub sound : (Slot → Bool) → (Slot → Slot → Bool) → List ℕ → Bool
+sound ok pair s = isZeroFrom (length (held s)) s && (every ok (held s) && neighbours pair (held s))
+
+-- How many slots at the front stand before a place given by four words.
+unfoldable pub placeOf : List ℕ → List Slot → ℕ
+placeOf k us = length (front (λ u. before (take 4 u) k) us)
+
+-- Slots from i on moved up by one, for n in use; slot i is left as it was, to be overwritten.
+unfoldable pub opened : ℕ → ℕ → List ℕ → List ℕ
+opened i n s = take (slotWidth * (i + 1)) s ++ (take (slotWidth * (n - i)) (drop (slotWidth * i) s) ++ drop (slotWidth * (n + 1)) s)
+
+-- Slots after i moved down by one, for n in use, and the last of them cleared.
+unfoldable pub closed : ℕ → ℕ → List ℕ → List ℕ
+closed i n s =
+    take (slotWidth * i) s
+    ++ (take (slotWidth * (n - (i + 1))) (drop (slotWidth * (i + 1)) s) ++ (replicate slotWidth 0 ++ drop (slotWidth * n) s))
+
+-- Slot i replaced.
+unfoldable pub written : ℕ → Slot → List ℕ → List ℕ
+written i u s = take (slotWidth * i) s ++ (u ++ drop (slotWidth * (i + 1)) s)
+
+-- Edits of the list of slots in use.
+unfoldable pub inserted : {A : Type 0} → ℕ → A → List A → List A
+inserted i u us = take i us ++ (u ∷ drop i us)
+
+unfoldable pub removed : {A : Type 0} → ℕ → List A → List A
+removed i us = take i us ++ drop (i + 1) us

@@ -1,0 +1,9 @@
+use Rattle.types.proofs.Values.{exchanged-field}
+use Rattle.types.proofs.value.ValueWithLayout.is_exchanged.Statement.{statement}
+use Rattle.types.proofs.value.ValueWithLayout.is_exchanged.Tie as tie
+
+returns : tie.Need-returns
+returns c = exchanged-field _
+
+pub is-exchanged-spec : {M : Type 1} → statement M
+is-exchanged-spec = tie.close (tie.spec returns)

@@ -1,0 +1,20 @@
+-- 01, "Index": "A transaction index is a u32. A shifted index is the transaction index plus 1; shifted 0 is the base."
+use Prim.Native.Nat.{ℕ, zero, suc, _+_}
+use Rattle.types.specs.declared.index.ShiftedTxnIndex.{ShiftedTxnIndex}
+use Rattle.types.specs.declared.index.IndexOrStorage.{IndexOrStorage}
+use Rattle.types.specs.declared.index.IndexOrStorage.the-variants.{Index, StorageVersion}
+
+abbrev pub shift : ℕ → ℕ
+shift index = index + 1
+
+-- A shifted index, and the word that it is stored as.
+abbrev pub shiftedOf : ℕ → ShiftedTxnIndex
+shiftedOf word = record { 0 = word }
+
+abbrev pub wordOf : ShiftedTxnIndex → ℕ
+wordOf index = index .0
+
+-- What the word of a shifted index stands for.
+unfoldable pub indexOf : ℕ → IndexOrStorage
+indexOf zero = StorageVersion
+indexOf (suc index) = Index index

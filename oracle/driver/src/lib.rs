@@ -1,0 +1,14 @@
+//! The old product behind the command line of 01's history program.
+
+pub mod checks;
+mod convert;
+pub mod differences;
+pub mod maps;
+pub mod oracle;
+pub mod panics;
+pub mod program;
+mod refusals;
+mod slots;
+
+pub use maps::Maps;
+pub use oracle::Oracle;
