@@ -1,11 +1,10 @@
 -- Worked cases, computed from the definitions.
 -- Assumes nothing.
 use mathlib.Core.Path.{_≡_, refl}
-use mathlib.Core.Bool.{true, false}
 use mathlib.Core.Option.{none, some}
 use Prim.Native.Nat.{ℕ}
-use lib.IntN.{ℤ, pos, negsuc, negℤ}
-use Rattle.delta.specs.Delta.{Delta, valid, applyTo, greater, joined, mergeable, merge, nothing, merged, failed, gathered, accumulate, signed}
+use lib.IntN.{ℤ, pos, negsuc}
+use Rattle.delta.specs.Delta.{Delta, applyTo, greater, joined, mergeable, merge, nothing, merged, failed, gathered, accumulate}
 
 delta : ℕ → ℕ → ℕ → ℤ → Delta
 delta m h l u = record { limit = m; high = h; low = l; update = u }

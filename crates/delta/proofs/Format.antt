@@ -3,20 +3,19 @@
 use mathlib.Core.Path.{_≡_, refl, sym, ap, ap₂, _∙_}
 use mathlib.Core.Bool.{Bool, true, false, not, cond, _&&_}
 use mathlib.Core.List.{List, [], _∷_, _++_}
-use Prim.Native.Nat.{ℕ, zero, suc, _+_, _≤_, _<_, _^_, min}
-use native.Mathlib.Nat.{mod-lt}
+use Prim.Native.Nat.{ℕ, zero, suc, _+_, _≤_, _<_, min}
 use native.Mathlib.Omega.{arith}
 use lib.Dec.{leb, eqb, lit<, eqb·suc-zero}
-use lib.IntN.{ℤ, pos, negsuc, negℤ, natAbs}
+use lib.IntN.{ℤ, pos, negsuc, natAbs}
 use lib.ListN.{length, take, drop, getD, length-drop}
 use lib.Seq.{take-all, take-add, take-suc, length-take-le}
-use borrow.Author.Tests.{leb-true, eq-eqb, eqb-true, not-true}
+use borrow.Author.Tests.{leb-true}
 use Rattle.number.specs.Words.{digits, valueOfWords, AreWords}
 use Rattle.number.specs.Number.{range}
 use Rattle.number.proofs.Digits.{words-digits, digits-value, value-four, four-below, words-append, words-take, words-drop}
-use Rattle.delta.specs.Delta.{Delta, valid, isMinus, signed, signWord, numberAt, deltaAt, deltaOk, deltaWords}
+use Rattle.delta.specs.Delta.{Delta, valid, isMinus, signed, signWord, numberAt, minusZero, minusAt, deltaAt, deltaOk, deltaWords}
 use Rattle.delta.proofs.Gain.{size-sides, one-side, gain-signed, loss-signed}
-use Rattle.delta.proofs.Merging.{and-left, and-right, Bounds, valid-bounds}
+use Rattle.delta.proofs.Merging.{and-left, and-right, valid-bounds}
 
 -- ---- signs
 
@@ -27,11 +26,20 @@ size-signed m n = size-sides (signed m n) ∙ rw (gain-signed m n, loss-signed m
     go true = omega arith
     go false = omega arith
 
-pub minus-signed : (m : Bool) (n : ℕ) → not (m && eqb n 0) ≡ true → isMinus (signed m n) ≡ m
-unfolding signed isMinus
+pub minus-signed : (m : Bool) (n : ℕ) → not (minusZero m n) ≡ true → isMinus (signed m n) ≡ m
+unfolding signed isMinus minusZero
 minus-signed true zero e = e
 minus-signed true (suc n) e = refl
 minus-signed false n e = refl
+
+pub not-zero : (m : Bool) (n : ℕ) → eqb n 0 ≡ false → not (minusZero m n) ≡ true
+unfolding minusZero
+not-zero true n e = rw e
+not-zero false n e = refl
+
+pub plus-fine : (n : ℕ) → not (minusZero false n) ≡ true
+unfolding minusZero
+plus-fine n = refl
 
 -- minus zero is zero
 pub zero-plus : (m : Bool) → isMinus (signed m 0) ≡ false
@@ -80,6 +88,14 @@ sign-part : (d : Delta) → getD (deltaWords d) 16 0 ≡ signWord (d .update)
 unfolding deltaWords digits
 sign-part d = refl
 
+minus-part : (d : Delta) → minusAt (deltaWords d) ≡ isMinus (d .update)
+unfolding minusAt
+minus-part d = ap (λ (x : ℕ). not (eqb x 0)) (sign-part d) ∙ minus-word (d .update)
+
+sign-back : (ws : List ℕ) → getD ws 16 0 ≤ 1 → cond (minusAt ws) 1 0 ≡ getD ws 16 0
+unfolding minusAt
+sign-back ws h = word-of-sign (getD ws 16 0) h
+
 parts : (ws : List ℕ) → length ws ≡ 17 → take 4 (drop 0 ws) ++ take 4 (drop 4 ws) ++ take 4 (drop 8 ws) ++ take 4 (drop 12 ws) ++ (getD ws 16 0 ∷ []) ≡ ws
 parts ws e =
     sym
@@ -92,8 +108,8 @@ unfolding signWord isMinus
 sign-small (pos n) = refl
 sign-small (negsuc n) = refl
 
-pub no-minus-zero : (z : ℤ) → not (isMinus z && eqb (natAbs z) 0) ≡ true
-unfolding isMinus
+pub no-minus-zero : (z : ℤ) → not (minusZero (isMinus z) (natAbs z)) ≡ true
+unfolding isMinus minusZero
 no-minus-zero (pos n) = refl
 no-minus-zero (negsuc n) = rw (eqb·suc-zero n)
 
@@ -143,9 +159,9 @@ deltaAt-deltaWords d s =
     low : valueOfWords (take 4 (drop 8 (deltaWords d))) ≡ d .low
     low = back (d .low) _ (s .low) (low-part d)
 
-    update : signed (not (eqb (getD (deltaWords d) 16 0) 0)) (valueOfWords (take 4 (drop 12 (deltaWords d)))) ≡ d .update
+    update : signed (minusAt (deltaWords d)) (valueOfWords (take 4 (drop 12 (deltaWords d)))) ≡ d .update
     update =
-        ap₂ signed (ap (λ (x : ℕ). not (eqb x 0)) (sign-part d) ∙ minus-word (d .update)) (back (natAbs (d .update)) _ (s .update) (update-part d))
+        ap₂ signed (minus-part d) (back (natAbs (d .update)) _ (s .update) (update-part d))
         ∙ signed-back (d .update)
 
 number-update : (d : Delta) → Small d → numberAt (deltaWords d) 12 ≡ natAbs (d .update)
@@ -158,13 +174,13 @@ module _ (ws : List ℕ) (ok : deltaOk ws ≡ true) where
   unfolding deltaOk
   ok-sign = leb-true _ _ (and-left (leb (getD ws 16 0) 1) _ (and-left _ _ ok))
 
-  pub ok-zero : not (not (eqb (getD ws 16 0) 0) && eqb (numberAt ws 12) 0) ≡ true
+  pub ok-zero : not (minusZero (minusAt ws) (numberAt ws 12)) ≡ true
   unfolding deltaOk
   ok-zero = and-right (leb (getD ws 16 0) 1) _ (and-left _ (valid (deltaAt ws)) ok)
 
   pub ok-valid : valid (deltaAt ws) ≡ true
   unfolding deltaOk
-  ok-valid = and-right (leb (getD ws 16 0) 1 && not (not (eqb (getD ws 16 0) 0) && eqb (numberAt ws 12) 0)) (valid (deltaAt ws)) ok
+  ok-valid = and-right (leb (getD ws 16 0) 1 && not (minusZero (minusAt ws) (numberAt ws 12))) (valid (deltaAt ws)) ok
 
 module _ (ws : List ℕ) (g : AreWords ws) (e : length ws ≡ 17) where
   part-four : (k : ℕ) → k ≤ 13 → length (take 4 (drop k ws)) ≡ 4
@@ -195,7 +211,7 @@ module _ (ws : List ℕ) (g : AreWords ws) (e : length ws ≡ 17) where
   pub deltaWords-deltaAt : deltaOk ws ≡ true → deltaWords (deltaAt ws) ≡ ws
   unfolding deltaWords deltaAt signWord
   deltaWords-deltaAt ok =
-      rw (part-digits 0 (omega arith), part-digits 4 (omega arith), part-digits 8 (omega arith), size-signed (not (eqb (getD ws 16 0) 0)) (numberAt ws 12), part-digits 12 (omega arith), minus-signed (not (eqb (getD ws 16 0) 0)) (numberAt ws 12) (ok-zero ws ok), word-of-sign (getD ws 16 0) (ok-sign ws ok))
+      rw (part-digits 0 (omega arith), part-digits 4 (omega arith), part-digits 8 (omega arith), size-signed (minusAt ws) (numberAt ws 12), part-digits 12 (omega arith), minus-signed (minusAt ws) (numberAt ws 12) (ok-zero ws ok), sign-back ws (ok-sign ws ok))
       (parts ws e)
 
 -- what is written of a valid delta is a delta in words
@@ -203,7 +219,7 @@ pub deltaOk-deltaWords : (d : Delta) → valid d ≡ true → Small d → deltaO
 unfolding deltaOk
 deltaOk-deltaWords d v s =
     let at : deltaAt (deltaWords d) ≡ d = deltaAt-deltaWords d s in
-    rw (at, v, sign-part d, minus-word (d .update), number-update d s, sign-small (d .update), no-minus-zero (d .update))
+    rw (at, v, minus-part d, number-update d s, no-minus-zero (d .update), sign-part d, sign-small (d .update))
 
 pub words-deltaWords : (d : Delta) → AreWords (deltaWords d)
 unfolding deltaWords

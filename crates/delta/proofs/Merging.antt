@@ -4,15 +4,15 @@
 use mathlib.Core.Path.{_≡_, refl, sym, ap, _∙_}
 use mathlib.Core.Bool.{Bool, true, false, cond, _&&_}
 use mathlib.Core.Option.{Option, none, some}
-use Prim.Native.Nat.{ℕ, zero, suc, _+_, _-_, _≤_, _<_, max, min}
+use Prim.Native.Nat.{ℕ, _+_, _-_, _≤_, _<_, max}
 use native.Mathlib.Decide.{decLe, ℕ-discrete}
 use native.Mathlib.Omega.{arith}
 use lib.Dec.{leb, eqb}
 use lib.IntN.{ℤ, pos, negℤ, natAbs, _+ℤ_, _-ℤ_}
 use lib.Signed.{leZ}
-use borrow.Author.Tests.{le-leb, lt-leb, leb-true, leb-false, eq-eqb, ne-eqb, eqb-true}
+use borrow.Author.Tests.{le-leb, lt-leb, leb-true, eq-eqb, ne-eqb}
 use Rattle.delta.specs.Delta.{Delta, valid, applyTo, applyNext, joined, mergeable, merge, Accumulated, nothing, merged, failed, gathered, accumulate, validSoFar}
-use Rattle.delta.proofs.Gain.{gain, loss, one-side, from-sides, size-sides, gain-sum, loss-sum, gain-neg, loss-neg, gain-pos, loss-pos, greater-is, above-is, below-is}
+use Rattle.delta.proofs.Gain.{gain, loss, from-sides, size-sides, gain-sum, loss-sum, gain-neg, loss-neg, gain-pos, loss-pos, greater-is, above-is, below-is}
 
 -- ---- valid deltas
 

@@ -4,11 +4,10 @@ use mathlib.Core.Path.{_≡_, refl, sym, ap, ap₂, _∙_}
 use mathlib.Core.Bool.{Bool, true, false, not, cond, _&&_}
 use mathlib.Core.List.{List}
 use mathlib.Core.Option.{Option, none, some}
-use Prim.Native.Nat.{ℕ, zero, suc, _+_, _-_, _≤_, _<_, max}
+use Prim.Native.Nat.{ℕ, _≤_, _<_}
 use native.Mathlib.Omega.{arith}
 use lib.Dec.{leb, ltb, eqb, leb·zero}
-use lib.IntN.{ℤ, pos, negsuc, negℤ, natAbs, _+ℤ_, _-ℤ_, +ℤ-comm}
-use lib.Signed.{leZ}
+use lib.IntN.{pos, negℤ, natAbs, _+ℤ_, +ℤ-comm}
 use lib.ListN.{getD}
 use borrow.Author.Tests.{lt-leb, le-leb, ltb-true, ltb-false, eqb-true, eqb-false, not-true, not-false}
 use Rattle.number.specs.declared.Number.{Number}
@@ -17,7 +16,6 @@ use Rattle.number.specs.declared.Sum.the-variants as Sums
 use Rattle.number.specs.Number.{Halves, range, valueOf, numberOf, sumOf}
 use Rattle.number.proofs.Halves.{valueOf-numberOf, numberOf-valueOf, halves-numberOf, value-below, total-sum, over-sum}
 use Rattle.delta.specs.declared.DeltaOp.{DeltaOp}
-use Rattle.delta.specs.declared.Applied.{Applied}
 use Rattle.delta.specs.declared.Applied.the-variants.{Value, Outside}
 use Rattle.delta.specs.declared.Merged.{Merged}
 use Rattle.delta.specs.declared.Merged.the-variants.{Joined, Apart}
@@ -27,10 +25,10 @@ use Rattle.delta.specs.declared.signed.Change.{Change}
 use Rattle.delta.specs.declared.signed.Change.the-variants.{To, Over}
 use Rattle.delta.specs.declared.signed.Reach.{Reach}
 use Rattle.delta.specs.declared.signed.Reach.the-variants.{Within, Beyond}
-use Rattle.delta.specs.Delta.{Delta, valid, applyTo, greater, joined, merge, Accumulated, nothing, merged, failed, gathered, accumulate, validSoFar, isMinus, signed, numberAt, deltaAt, deltaOk}
+use Rattle.delta.specs.Delta.{Delta, valid, applyTo, greater, joined, merge, Accumulated, nothing, merged, failed, gathered, accumulate, validSoFar, isMinus, signed, numberAt, minusZero, minusAt, deltaAt, deltaOk}
 use Rattle.delta.specs.Op.{AllHalves, exact, opOf, validOp, opAt, appliedOf, mergedOf, exactly, accumulatorOf, changeOf, reachOf}
-use Rattle.delta.proofs.Gain.{gain, loss, from-sides, gain-neg, loss-neg, gain-signed, loss-signed, above-is, below-is}
-use Rattle.delta.proofs.Merging.{and-left, and-right, Bounds, valid-bounds, bounds-valid, apply-some, apply-deep, apply-high, after-is, merge-some, merge-limits, merge-high, merge-low, joined-bounds, joined-limit}
+use Rattle.delta.proofs.Gain.{from-sides, gain-neg, loss-neg, gain-signed, loss-signed, above-is, below-is}
+use Rattle.delta.proofs.Merging.{and-left, and-right, valid-bounds, bounds-valid, apply-some, apply-deep, apply-high, after-is, merge-some, merge-limits, merge-high, merge-low, joined-bounds, joined-limit}
 use Rattle.delta.proofs.Format.{size-signed, minus-signed, signed-back, no-minus-zero, Small, valid-small, ok-zero}
 use Rattle.delta.proofs.Sums.{IsChange, to-change, over-change, within-reach, beyond-reach}
 
@@ -43,13 +41,13 @@ exact-opOf d = λ i. record { limit = valueOf-numberOf (d .limit) i; high = valu
     update : signed (isMinus (d .update)) (valueOf (numberOf (natAbs (d .update)))) ≡ d .update
     update = ap (signed (isMinus (d .update))) (valueOf-numberOf (natAbs (d .update))) ∙ signed-back (d .update)
 
-validOp-zero : (o : DeltaOp) → validOp o ≡ true → not (o .minus && eqb (valueOf (o .update)) 0) ≡ true
+validOp-zero : (o : DeltaOp) → validOp o ≡ true → not (minusZero (o .minus) (valueOf (o .update))) ≡ true
 unfolding validOp
 validOp-zero o v = and-left _ _ v
 
 pub validOp-valid : (o : DeltaOp) → validOp o ≡ true → valid (exact o) ≡ true
 unfolding validOp
-validOp-valid o v = and-right (not (o .minus && eqb (valueOf (o .update)) 0)) _ v
+validOp-valid o v = and-right (not (minusZero (o .minus) (valueOf (o .update)))) _ v
 
 pub opOf-exact : (o : DeltaOp) → AllHalves o → validOp o ≡ true → opOf (exact o) ≡ o
 unfolding exact opOf
@@ -63,17 +61,17 @@ opOf-exact o g v = λ i. record { limit = numberOf-valueOf (o .limit) (g .limit)
 
 pub exact-opAt : (ws : List ℕ) → exact (opAt ws) ≡ deltaAt ws
 unfolding exact opAt deltaAt
-exact-opAt ws = λ i. record { limit = valueOf-numberOf (numberAt ws 0) i; high = valueOf-numberOf (numberAt ws 4) i; low = valueOf-numberOf (numberAt ws 8) i; update = signed (not (eqb (getD ws 16 0) 0)) (valueOf-numberOf (numberAt ws 12) i) }
+exact-opAt ws = λ i. record { limit = valueOf-numberOf (numberAt ws 0) i; high = valueOf-numberOf (numberAt ws 4) i; low = valueOf-numberOf (numberAt ws 8) i; update = signed (minusAt ws) (valueOf-numberOf (numberAt ws 12) i) }
 
 pub opAt-opOf : (ws : List ℕ) → deltaOk ws ≡ true → opAt ws ≡ opOf (deltaAt ws)
 unfolding opAt opOf deltaAt
 opAt-opOf ws ok = λ i. record { limit = numberOf (numberAt ws 0); high = numberOf (numberAt ws 4); low = numberOf (numberAt ws 8); update = numberOf (size i); minus = minus i }
   where
-    size : numberAt ws 12 ≡ natAbs (signed (not (eqb (getD ws 16 0) 0)) (numberAt ws 12))
-    size = sym (size-signed (not (eqb (getD ws 16 0) 0)) (numberAt ws 12))
+    size : numberAt ws 12 ≡ natAbs (signed (minusAt ws) (numberAt ws 12))
+    size = sym (size-signed (minusAt ws) (numberAt ws 12))
 
-    minus : not (eqb (getD ws 16 0) 0) ≡ isMinus (signed (not (eqb (getD ws 16 0) 0)) (numberAt ws 12))
-    minus = sym (minus-signed (not (eqb (getD ws 16 0) 0)) (numberAt ws 12) (ok-zero ws ok))
+    minus : minusAt ws ≡ isMinus (signed (minusAt ws) (numberAt ws 12))
+    minus = sym (minus-signed (minusAt ws) (numberAt ws 12) (ok-zero ws ok))
 
 pub validOp-opOf : (d : Delta) → valid d ≡ true → validOp (opOf d) ≡ true
 unfolding validOp opOf
@@ -88,7 +86,7 @@ halves-opOf d s =
 pub validOp-opAt : (ws : List ℕ) → getD ws 16 0 ≤ 1 → validOp (opAt ws) ≡ deltaOk ws
 unfolding validOp deltaOk opAt
 validOp-opAt ws h =
-    ap₂ (λ (x : ℕ) (d : Delta). not (not (eqb (getD ws 16 0) 0) && eqb x 0) && valid d) (valueOf-numberOf (numberAt ws 12)) (exact-opAt ws)
+    ap₂ (λ (x : ℕ) (d : Delta). not (minusZero (minusAt ws) x) && valid d) (valueOf-numberOf (numberAt ws 12)) (exact-opAt ws)
     ∙ rw (le-leb _ _ h)
 
 pub sign-bad : (ws : List ℕ) → 1 < getD ws 16 0 → false ≡ deltaOk ws
@@ -131,7 +129,7 @@ check minus limit high low size =
     not (minus && eqb size 0) && (leb high limit && leb low limit && leb (cond minus size 0) low && leb (cond minus 0 size) high)
 
 validOp-is : (o : DeltaOp) → validOp o ≡ check (o .minus) (valueOf (o .limit)) (valueOf (o .high)) (valueOf (o .low)) (valueOf (o .update))
-unfolding validOp valid exact check
+unfolding validOp valid exact check minusZero
 validOp-is o =
     rw (above-is (valueOf (o .low)) (signed (o .minus) (valueOf (o .update))), below-is (valueOf (o .high)) (signed (o .minus) (valueOf (o .update))), loss-signed (o .minus) (valueOf (o .update)), gain-signed (o .minus) (valueOf (o .update)))
 

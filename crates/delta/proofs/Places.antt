@@ -1,13 +1,12 @@
 -- What reading and writing a delta at a place of a slice finds.
 -- Assumes nothing.
-use mathlib.Core.Path.{_≡_, refl, sym, ap, _∙_}
+use mathlib.Core.Path.{_≡_, sym, ap, _∙_}
 use mathlib.Core.Bool.{Bool, true, false, not, cond, _&&_}
 use mathlib.Core.List.{List, [], _∷_, _++_}
 use Prim.Native.Nat.{ℕ, zero, suc, _+_, _≤_, _<_}
 use native.Mathlib.Nat.{zero-add, suc-add}
 use native.Mathlib.Omega.{arith}
-use lib.Dec.{eqb, ltb}
-use lib.IntN.{ℤ, natAbs}
+use lib.Dec.{eqb}
 use lib.ListN.{length, take, drop, getD, set, length-append}
 use lib.Seq.{sets, take-take, drop-drop, take-nil, getD-take, getD-drop}
 use borrow.Author.Tests.{eqb-true}
@@ -17,9 +16,9 @@ use Rattle.number.specs.Words.{digits, valueOfWords}
 use Rattle.number.proofs.Digits.{length-digits}
 use Rattle.number.proofs.Stores.{sets-then}
 use Rattle.delta.specs.declared.DeltaOp.{DeltaOp}
-use Rattle.delta.specs.Delta.{Delta, isMinus, signed, signWord, numberAt, deltaOk, deltaWords}
+use Rattle.delta.specs.Delta.{isMinus, signed, signWord, numberAt, minusZero, minusAt, deltaOk, deltaWords}
 use Rattle.delta.specs.Op.{exact, opAt, validOp}
-use Rattle.delta.proofs.Format.{size-signed, minus-signed, zero-plus}
+use Rattle.delta.proofs.Format.{size-signed, minus-signed, not-zero, plus-fine, zero-plus}
 use Rattle.delta.proofs.Ops.{validOp-opAt, sign-bad}
 
 -- ---- reading
@@ -37,7 +36,7 @@ pub sign-of-part : (s : List ℕ) (at : ℕ) → getD (take 17 (drop at s)) 16 0
 sign-of-part s at = getD-take 17 (drop at s) 16 0 (omega arith) ∙ getD-drop at s 16 0
 
 pub op-is : (s : List ℕ) (at : ℕ) (limit high low update : Number) → limit ≡ numberOf (valueOfWords (take 4 (drop at s))) → high ≡ numberOf (valueOfWords (take 4 (drop (at + 4) s))) → low ≡ numberOf (valueOfWords (take 4 (drop (at + 8) s))) → update ≡ numberOf (valueOfWords (take 4 (drop (at + 12) s))) → _≡_ {A = DeltaOp} (record { limit = limit; high = high; low = low; update = update; minus = not (eqb (getD s (at + 16) 0) 0) }) (opAt (take 17 (drop at s)))
-unfolding opAt numberAt
+unfolding opAt numberAt minusAt
 op-is s at limit high low update e₀ e₁ e₂ e₃ =
     λ i. record { limit = limit-is i; high = high-is i; low = low-is i; update = update-is i; minus = not (eqb (sign-is i) 0) }
   where
@@ -68,7 +67,7 @@ module _ (s : List ℕ) (at : ℕ) where
 -- ---- writing
 
 module _ (o : DeltaOp) where
-  sign-plain : not (o .minus && eqb (valueOf (o .update)) 0) ≡ true → cond (o .minus) 1 0 ≡ signWord (exact o .update)
+  sign-plain : not (minusZero (o .minus) (valueOf (o .update))) ≡ true → cond (o .minus) 1 0 ≡ signWord (exact o .update)
   unfolding signWord exact
   sign-plain h = rw (minus-signed (o .minus) (valueOf (o .update)) h)
 
@@ -77,10 +76,10 @@ module _ (o : DeltaOp) where
   sign-zero z = sym (ap (λ (x : ℕ). cond (isMinus (signed (o .minus) x)) 1 0) (eqb-true (valueOf (o .update)) 0 z) ∙ rw (zero-plus (o .minus)))
 
   pub sign-minus : eqb (valueOf (o .update)) 0 ≡ false → o .minus ≡ true → 1 ≡ signWord (exact o .update)
-  sign-minus z m = sym (ap (λ (t : Bool). cond t 1 0) m) ∙ sign-plain (rw (m, z))
+  sign-minus z m = sym (ap (λ (t : Bool). cond t 1 0) m) ∙ sign-plain (not-zero (o .minus) (valueOf (o .update)) z)
 
   pub sign-plus : o .minus ≡ false → 0 ≡ signWord (exact o .update)
-  sign-plus m = sym (ap (λ (t : Bool). cond t 1 0) m) ∙ sign-plain (rw m)
+  sign-plus m = sym (ap (λ (t : Bool). cond t 1 0) m) ∙ sign-plain (rw m (plus-fine (valueOf (o .update))))
 
 -- five runs of words, one after another
 runs : (s s₁ s₂ s₃ s₄ a b c d : List ℕ) (at w : ℕ) → length a ≡ 4 → length b ≡ 4 → length c ≡ 4 → length d ≡ 4 → s₁ ≡ sets s at a → s₂ ≡ sets s₁ (at + 4) b → s₃ ≡ sets s₂ (at + 8) c → s₄ ≡ sets s₃ (at + 12) d → sets s₄ (at + 16) (w ∷ []) ≡ sets s at (a ++ b ++ c ++ d ++ (w ∷ []))

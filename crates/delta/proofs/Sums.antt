@@ -2,11 +2,11 @@
 -- Assumes nothing.
 use mathlib.Core.Path.{_≡_, refl, sym, ap, ap₂, _∙_}
 use mathlib.Core.Bool.{Bool, true, false, not, cond, _&&_}
-use Prim.Native.Nat.{ℕ, zero, suc, _+_, _-_, _≤_, _<_, max}
+use Prim.Native.Nat.{ℕ, _+_, _-_, _≤_, _<_, max}
 use native.Mathlib.Decide.{decLe, decLt}
 use native.Mathlib.Omega.{arith}
-use lib.Dec.{leb, ltb, eqb}
-use lib.IntN.{ℤ, pos, negsuc, negℤ, natAbs, _+ℤ_, _-ℤ_, +ℤ-comm}
+use lib.Dec.{leb, eqb}
+use lib.IntN.{ℤ, pos, negℤ, natAbs, _+ℤ_, _-ℤ_, +ℤ-comm}
 use borrow.Author.Tests.{lt-ltb, le-ltb, lt-leb, le-leb, leb-true, leb-false, eqb-true}
 use Rattle.number.specs.declared.Number.{Number}
 use Rattle.number.specs.declared.Sum.{Sum}
@@ -14,7 +14,7 @@ use Rattle.number.specs.declared.Sum.the-variants as Sums
 use Rattle.number.specs.declared.Difference.{Difference}
 use Rattle.number.specs.declared.Difference.the-variants.{Rest, Below}
 use Rattle.number.specs.Number.{Halves, range, valueOf, numberOf, sumOf, differenceOf}
-use Rattle.number.proofs.Halves.{valueOf-numberOf, numberOf-valueOf, value-below, IsSum, IsDifference, total-sum, over-sum, rest-difference, below-difference}
+use Rattle.number.proofs.Halves.{valueOf-numberOf, numberOf-valueOf, value-below, total-sum, over-sum, rest-difference, below-difference}
 use Rattle.delta.specs.declared.signed.Change.{Change}
 use Rattle.delta.specs.declared.signed.Change.the-variants.{To, Over}
 use Rattle.delta.specs.declared.signed.Reach.{Reach}
@@ -22,7 +22,7 @@ use Rattle.delta.specs.declared.signed.Reach.the-variants.{Within, Beyon
 use Rattle.delta.specs.Delta.{greater, signed, isMinus}
 use Rattle.delta.specs.Op.{changeOf, reachOf}
 use Rattle.delta.proofs.Gain.{gain, loss, from-sides, size-sides, gain-sum, loss-sum, gain-neg, loss-neg, gain-pos, loss-pos, greater-is, gain-signed, loss-signed, minus-is}
-use Rattle.delta.proofs.Format.{size-signed, minus-signed, zero-plus}
+use Rattle.delta.proofs.Format.{size-signed, minus-signed, not-zero, zero-plus}
 
 -- ---- a signed number as the code gives it
 
@@ -60,11 +60,7 @@ module _ (a b : Number) (m : Bool) (r : Sum) (e : r ≡ sumOf a b) where
   sizes-some n t z =
       let s = total-sum a b n (sym e ∙ t) in
       is-to _ n m _ (size-signed m (valueOf a + valueOf b)) (s .fits) (s .is)
-      (minus-signed m (valueOf a + valueOf b) (rw (← zero-test n t, z) (plain m)))
-    where
-      plain : (t : Bool) → not (t && false) ≡ true
-      plain true = refl
-      plain false = refl
+      (minus-signed m (valueOf a + valueOf b) (not-zero m (valueOf a + valueOf b) (sym (zero-test n t) ∙ z)))
 
 -- ---- numbers of opposite signs
 

@@ -94,20 +94,28 @@ signed minus n = cond minus (negℤ (pos n)) (pos n)
 unfoldable pub numberAt : List ℕ → ℕ → ℕ
 numberAt ws i = valueOfWords (take 4 (drop i ws))
 
--- the delta that 17 words hold, whatever they are; a sign that is not 0 counts as minus
+-- "minus zero is bad"
+unfoldable pub minusZero : Bool → ℕ → Bool
+minusZero minus n = minus && eqb n 0
+
+-- the sign of the words: 0 is plus, and whatever else stands there is read as minus
+unfoldable pub minusAt : List ℕ → Bool
+minusAt ws = not (eqb (getD ws 16 0) 0)
+
+-- the delta that 17 words hold, whatever they are
 unfoldable pub deltaAt : List ℕ → Delta
 deltaAt ws =
     record {
       limit = numberAt ws 0;
       high = numberAt ws 4;
       low = numberAt ws 8;
-      update = signed (not (eqb (getD ws 16 0) 0)) (numberAt ws 12);
+      update = signed (minusAt ws) (numberAt ws 12);
     }
 
 -- the words are a delta: the sign is 0 or 1, not minus zero, and what they hold is valid
 unfoldable pub deltaOk : List ℕ → Bool
 deltaOk ws =
-    leb (getD ws 16 0) 1 && not (not (eqb (getD ws 16 0) 0) && eqb (numberAt ws 12) 0) && valid (deltaAt ws)
+    leb (getD ws 16 0) 1 && not (minusZero (minusAt ws) (numberAt ws 12)) && valid (deltaAt ws)
 
 -- "sign (0 plus, 1 minus"; zero has the sign of plus
 unfoldable pub signWord : ℤ → ℕ

@@ -1,14 +1,13 @@
 -- The code's `DeltaOp` and its answers, tied to the exact deltas of `Delta`.
 -- Assumes nothing.
-use mathlib.Core.Bool.{Bool, true, false, not, cond, _&&_}
+use mathlib.Core.Bool.{Bool, not, cond, _&&_}
 use mathlib.Core.List.{List}
 use mathlib.Core.Option.{Option, none, some}
 use Prim.Native.Nat.{ℕ}
-use lib.Dec.{eqb, leb, ltb}
+use lib.Dec.{leb, ltb}
 use lib.IntN.{ℤ, natAbs}
-use lib.ListN.{getD}
 use Rattle.number.specs.Number.{Halves, range, valueOf, numberOf}
-use Rattle.delta.specs.Delta.{Delta, valid, Accumulated, nothing, merged, failed, isMinus, signed, numberAt}
+use Rattle.delta.specs.Delta.{Delta, valid, Accumulated, nothing, merged, failed, isMinus, signed, numberAt, minusZero, minusAt}
 use Rattle.delta.specs.declared.signed.Change.{Change}
 use Rattle.delta.specs.declared.signed.Change.the-variants.{To, Over}
 use Rattle.delta.specs.declared.signed.Reach.{Reach}
@@ -51,9 +50,9 @@ opOf d =
 
 -- the struct holds a delta: "minus zero is bad", and the delta is valid
 unfoldable pub validOp : DeltaOp → Bool
-validOp o = not (o .minus && eqb (valueOf (o .update)) 0) && valid (exact o)
+validOp o = not (minusZero (o .minus) (valueOf (o .update))) && valid (exact o)
 
--- the struct that 17 words hold; a sign that is not 0 is minus
+-- the struct that 17 words hold, whatever they are
 unfoldable pub opAt : List ℕ → DeltaOp
 opAt ws =
     record {
@@ -61,7 +60,7 @@ opAt ws =
       high = numberOf (numberAt ws 4);
       low = numberOf (numberAt ws 8);
       update = numberOf (numberAt ws 12);
-      minus = not (eqb (getD ws 16 0) 0);
+      minus = minusAt ws;
     }
 
 -- ---- the code's answers

@@ -1,7 +1,6 @@
 // A delta in 17 words: M, H, L and the size of u, four words each, low word first, then the sign.
 use super::DeltaOp;
 ghost use mathlib.Core.Path.{_≡_};
-ghost use mathlib.Core.Bool.{Bool};
 ghost use Prim.Native.Nat.{_+_, _≤_};
 ghost use lib.ListN.{length, take, drop};
 ghost use lib.Seq.{sets};

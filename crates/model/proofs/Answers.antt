@@ -6,9 +6,11 @@ use mathlib.Core.Logic.{inl, inr}
 use mathlib.Core.List.{List, [], _∷_, _++_}
 use mathlib.Core.Option.{Option, none, some}
 use Prim.Native.Nat.{ℕ, zero, suc, _+_, _*_, _-_, _^_, _≤_, _<_}
+use native.Mathlib.Nat.{pow-suc}
 use native.Mathlib.Omega.{arith}
 use lib.Dec.{leb, eqb}
 use lib.ListN.{length, length-append}
+use lib.Pow.{pow-mono}
 use borrow.Author.Tests.{leb-true, le-leb, eqb-true}
 use Rattle.number.specs.Words.{digits}
 use Rattle.number.proofs.Digits.{length-digits, words-digits}
@@ -22,17 +24,17 @@ use Rattle.request.specs.Set.{Member}
 use Rattle.model.specs.Rows.{Row, every, isAbove, rising, find, downFrom, ofKey, leave, set, edited}
 use Rattle.model.specs.Data.{Cell, write, delta, Entry, done, unlessDiffers, sameExchanged, sameBytes, baseOver, baseOnto, setBaseValue, mayWrite, writeValue, addDelta, markEstimate, remove, record-shortcut, materialized, materializeDelta, fetchData, Ruling, refuse, accept, doneAnswer, Read, versioned, resolved, unresolved, uninitialized, dependency, applicationFailure, refusal, readOf, versionedAnswer, readRuling}
 use Rattle.model.specs.Group.{Update, Committed, Latest, hasBase, latest, dependencyAnswer, latestAnswer, Size, counted, waits, sizeOver, allTags, sizeAnswer, setOf, valuesOf, committedAnswer, valueOf, commit, Commits, commits, firstBase, allAgree, setRawBaseValues, exchangeRaw, exchangeIn, updateTaggedBaseValue, outside, membersIn, writeGroup, markGroup, removeGroup, fetchTaggedData, getGroupSize, getLastCommittedGroup, finalizedTo, finalizeGroup}
-use Rattle.model.specs.Fine.{isWord, fineValue, fineEntry, fineUpdate, fineUpdates, fineCommitted, fineGroup, fine, fineRead, fineLatest, fineSize, fineAnswer, fineRequest}
+use Rattle.model.specs.Fine.{isWord, fineValue, fineEntry, fineUpdate, fineCommitted, fineGroup, fine, fineRead, fineLatest, fineSize, fineAnswer, fineRequest}
 use Rattle.model.proofs.Lists.{and-left, and-right, and-both, and-three, and-four, every-imp, every-keep, every-kept, every-append}
 use Rattle.model.proofs.Rows.{above-told, Over, rising-keep}
-use Rattle.model.proofs.Walk.{word-told, word-tell, value-length, value-words, words-every, readOf-fine}
+use Rattle.model.proofs.Walk.{word-told, word-tell, value-length, value-every, words-every, readOf-fine}
 use Rattle.model.specs.Model.{Model, Slots, fits, workOf, ruled, withEntries, withUpdates, withCommits, perform, unlessRefused, ruling, unlessFull, step}
 use Rattle.model.proofs.Maps.{every-downFrom}
 use Rattle.model.proofs.FineData.{fine-downFrom}
 use Rattle.model.proofs.GroupReads.{latest-fine, sizeOver-allTags-fine}
 use Rattle.model.proofs.FineRequest.{requestOf-fine}
 use Rattle.model.proofs.Fine.{fine-entries, fine-updates, fine-committed}
-use Rattle.model.proofs.FineGroup.{fine-find-update, fineOwnUpdate, fineOption, commit-fine, update-members}
+use Rattle.model.proofs.FineGroup.{updates-every, group-rising, group-every, fine-find-update, fineOwnUpdate, fineOption, commit-fine, update-members}
 
 -- A test of a ruling's answer; a refusal has none.
 unfoldable pub answers : {A : Type 0} → (List ℕ → Bool) → Ruling A → Bool
@@ -60,9 +62,6 @@ unfolding every
 word-fine kind n k h = response-fine kind (n ∷ []) k (omega arith) (and-both (isWord n) true h refl)
 
 -- ---- what a read answers
-
-value-every : (v : List ℕ) → fineValue v ≡ true → every isWord v ≡ true
-value-every v f = words-every v (value-words v f)
 
 pub versionedAnswer-fine : (place incarnation : ℕ) (v : List ℕ) → isWord place ≡ true → isWord incarnation ≡ true → fineValue v ≡ true → fineAnswer (versionedAnswer place incarnation v) ≡ true
 unfolding versionedAnswer every
@@ -151,6 +150,20 @@ module _ {A : Type 0} (k : ℕ) where
       (every-higher r rs (and-left (eqb (r .key) k) (every (λ s. eqb (s .key) k) rs) e) e₁ (and-left (every (isAbove (r .key) (r .place)) rs) (rising rs) g)) in
       omega arith
 
+-- the set of such rows, with room for a bit at each place below `least`
+setOf-places : (k least : ℕ) (rs : Committed) → least ≤ 64 → rising rs ≡ true → every (λ s. eqb (s .key) k) rs ≡ true → every (λ s. leb (s .place) 63) rs ≡ true → every (λ s. leb least (s .place)) rs ≡ true → setOf rs + 2 ^ least ≤ 2 ^ 64
+unfolding rising every setOf
+setOf-places k least [] l g e t h = omega (arith, pow-mono l)
+setOf-places k least (r ∷ rs) l g e t h =
+    let t₀ : r .place ≤ 63 = leb-true (r .place) 63 (and-left (leb (r .place) 63) (every (λ s. leb (s .place) 63) rs) t) in
+    let h₀ : least ≤ r .place = leb-true least (r .place) (and-left (leb least (r .place)) (every (λ s. leb least (s .place)) rs) h) in
+    let e₁ = and-right (eqb (r .key) k) (every (λ s. eqb (s .key) k) rs) e in
+    let ih : setOf rs + 2 ^ suc (r .place) ≤ 2 ^ 64 =
+    setOf-places k (suc (r .place)) rs (omega arith) (and-right (every (isAbove (r .key) (r .place)) rs) (rising rs) g) e₁
+    (and-right (leb (r .place) 63) (every (λ s. leb (s .place) 63) rs) t)
+    (every-higher k r rs (and-left (eqb (r .key) k) (every (λ s. eqb (s .key) k) rs) e) e₁ (and-left (every (isAbove (r .key) (r .place)) rs) (rising rs) g)) in
+    omega (arith, pow-mono h₀, rw (pow-suc 2 (r .place)) at ih)
+
 committed-tag : (r : Row (List ℕ)) → fineCommitted r ≡ true → leb (r .place) 63 ≡ true
 unfolding fineCommitted
 committed-tag r f = and-four (isWord (r .key)) (leb (r .place) 63) (fineValue (r .held)) (not (isDeletion (r .held))) f .1
@@ -180,21 +193,30 @@ valuesOf-words (r ∷ rows) h =
 
 module _ (key : ℕ) (group : Committed) (g : fineGroup group ≡ true) where
   rows-fine : every fineCommitted (ofKey key group) ≡ true
-  unfolding fineGroup ofKey
-  rows-fine = every-keep fineCommitted (λ r. eqb (r .key) key) group (and-right (rising group) (every fineCommitted group) g)
+  unfolding ofKey
+  rows-fine = every-keep fineCommitted (λ r. eqb (r .key) key) group (group-every group g)
+
+  rows-rising : rising (ofKey key group) ≡ true
+  unfolding ofKey
+  rows-rising = rising-keep (λ r. eqb (r .key) key) group (group-rising group g)
+
+  rows-same : every (λ r. eqb (r .key) key) (ofKey key group) ≡ true
+  unfolding ofKey
+  rows-same = every-kept (λ r. eqb (r .key) key) group
+
+  rows-tags : every (λ r. leb (r .place) 63) (ofKey key group) ≡ true
+  rows-tags = every-imp fineCommitted (λ r. leb (r .place) 63) committed-tag (ofKey key group) rows-fine
+
+  rows-least : every (λ r. leb 0 (r .place)) (ofKey key group) ≡ true
+  rows-least = every-imp fineCommitted (λ r. leb 0 (r .place)) (λ r h. le-leb 0 (r .place) (omega arith)) (ofKey key group) rows-fine
 
   -- "A tag is 0 to 63."
   pub length-ofKey : length (ofKey key group) ≤ 64
-  unfolding fineGroup ofKey
-  length-ofKey =
-      omega (
-        arith,
-        length-places key 0 (ofKey key group) (omega arith)
-            (rising-keep (λ r. eqb (r .key) key) group (and-left (rising group) (every fineCommitted group) g))
-            (every-kept (λ r. eqb (r .key) key) group)
-            (every-imp fineCommitted (λ s. leb (s .place) 63) committed-tag (ofKey key group) rows-fine)
-            (every-imp fineCommitted (λ s. leb 0 (s .place)) (λ s h. le-leb 0 (s .place) (omega arith)) (ofKey key group) rows-fine),
-      )
+  length-ofKey = omega (arith, length-places key 0 (ofKey key group) (omega arith) rows-rising rows-same rows-tags rows-least)
+
+  -- two words hold the set
+  pub setOf-ofKey : setOf (ofKey key group) < 2 ^ 64
+  setOf-ofKey = omega (arith, setOf-places key 0 (ofKey key group) (omega arith) rows-rising rows-same rows-tags rows-least)
 
   pub committedAnswer-fine : fineAnswer (committedAnswer key group) ≡ true
   unfolding committedAnswer
@@ -356,9 +378,7 @@ module _ (m : Model) (h : fine m ≡ true) where
   seen-entries key reach = fine-downFrom key reach (m .entries) (fine-entries m h)
 
   seen-updates : (key reach : ℕ) → every fineUpdate (downFrom key reach (m .updates)) ≡ true
-  unfolding fineUpdates
-  seen-updates key reach =
-      every-downFrom fineUpdate key reach (m .updates) (and-right (rising (m .updates)) (every fineUpdate (m .updates)) (fine-updates m h))
+  seen-updates key reach = every-downFrom fineUpdate key reach (m .updates) (updates-every (m .updates) (fine-updates m h))
 
   request-answers : (q : Request) → fineRequest q ≡ true → answers fineAnswer (perform (workOf q) m) ≡ true
   unfolding fineRequest workOf perform fetchData

@@ -172,6 +172,21 @@ entries =
     ∷ fetch 7 0 ⇒ atBase (number 9)
     ∷ fetch 8 4 ⇒ uninitialized
     ∷ [])
+    -- keys and indexes in any order of arrival
+    ∷ case
+    (write 9 0 0 (number 9) ⇒ done
+    ∷ write 7 5 0 (number 5) ⇒ done
+    ∷ write 8 0 0 (number 8) ⇒ done
+    ∷ write 7 1 0 (number 1) ⇒ done
+    ∷ write 7 3 0 (number 3) ⇒ done
+    ∷ fetch 7 4 ⇒ versioned 3 0 (number 3)
+    ∷ fetch 7 3 ⇒ versioned 1 0 (number 1)
+    ∷ fetch 7 6 ⇒ versioned 5 0 (number 5)
+    ∷ remove 7 3 ⇒ done
+    ∷ fetch 7 5 ⇒ versioned 1 0 (number 1)
+    ∷ fetch 8 1 ⇒ versioned 0 0 (number 8)
+    ∷ fetch 9 1 ⇒ versioned 0 0 (number 9)
+    ∷ [])
     -- "at an estimate: Dependency on its index", for readers above it, up to what is nearer
     ∷ case
     (write 7 0 0 (number 1) ⇒ done
@@ -265,6 +280,19 @@ entries =
     ∷ estimate 8 0 ⇒ done
     ∷ materialize 8 4 ⇒ refused 13
     ∷ [])
+    -- 13: "neither Resolved nor Unresolved, and not 9 or 10": these come from the walk, entry or not
+    ∷ case
+    (write 7 0 0 (number 100) ⇒ done
+    ∷ addDelta 7 1 (plus 119 20) ⇒ done
+    ∷ materialize 7 1 ⇒ refused 13
+    ∷ write 7 0 1 (created 15) ⇒ done
+    ∷ materialize 7 1 ⇒ refused 10
+    ∷ materialize 7 5 ⇒ refused 10
+    ∷ write 7 0 2 (valueWords 0 1 16 9 100) ⇒ done
+    ∷ materialize 7 1 ⇒ refused 9
+    ∷ write 7 0 3 deleted ⇒ done
+    ∷ materialize 7 1 ⇒ refused 13
+    ∷ [])
     -- "at a shortcut: Resolved, with any deltas above applied, or DeltaApplicationFailure": after a failed merge too; `add_delta` replaces it
     ∷ case
     (base 7 (number 100) ⇒ done
@@ -297,6 +325,8 @@ groups =
     -- "it reports outside if some tag was not in that update. No incarnation rule. An empty set is an update."
     case
     (groupWrite 7 0 4 (tagged 0 (created 5) ∷ tagged 63 (created 6) ∷ []) ⇒ wroteOutside
+    ∷ groupWrite 7 0 4 (tagged 63 (created 7) ∷ []) ⇒ done
+    ∷ groupWrite 7 0 4 (tagged 32 (created 7) ∷ tagged 63 (created 7) ∷ []) ⇒ wroteOutside
     ∷ groupWrite 7 0 4 (tagged 63 (created 7) ∷ []) ⇒ done
     ∷ groupFetch 7 63 1 ⇒ versioned 0 4 (created 7)
     ∷ groupFetch 7 0 1 ⇒ uninitialized
@@ -404,14 +434,14 @@ groups =
     ∷ [])
     -- "tags in rising order, the first estimate gives Dependency"
     ∷ case
-    (groupBase 7 [] ⇒ done
+    (groupBase 7 (tagged 0 (rawCreated 9) ∷ []) ⇒ done
     ∷ groupWrite 7 1 0 (tagged 2 (created 5) ∷ []) ⇒ wroteOutside
     ∷ groupWrite 7 2 0 (tagged 1 (created 5) ∷ []) ⇒ wroteOutside
     ∷ groupEstimate 7 1 ⇒ done
     ∷ groupEstimate 7 2 ⇒ done
     ∷ groupSize 7 3 ⇒ dependency 2
     ∷ groupSize 7 2 ⇒ dependency 1
-    ∷ groupSize 7 1 ⇒ size 0 0
+    ∷ groupSize 7 1 ⇒ size 1 10
     ∷ [])
     ∷ []
 
@@ -525,7 +555,7 @@ cases = printed ∷ starred ++ slips ++ entries ++ groups ++ full ++ malformed
 
 -- The case with the outcomes of the definition: its requests, run from empty stores.
 unfoldable pub run : Case → Case
-unfolding Words.digits Words.valueOfWords Delta.valid Delta.applyTo Delta.greater Delta.joined Delta.mergeable Delta.merge Delta.gathered Delta.accumulate Delta.isMinus Delta.signed Delta.numberAt Delta.deltaAt Delta.deltaOk Delta.signWord Delta.deltaWords Value.valueAt Value.writeOpKind Value.isCreation Value.isDeletion Value.isExchanged Value.byteLength Value.layoutOf Value.numberWords Value.hasNumber Value.numberIn Value.bytesLen Value.valueOk Response.response Table.row Table.at Table.table Table.rowOf Set.tagsFrom Set.tagsOf Set.membersOf Request.rowAt Request.countOf Request.tagsAt Request.tags Request.members Request.shapeOk Request.exchangedOk Request.rawOk Request.tagOk Request.all Request.fieldsOk Request.lastIndex Request.indexIn Request.indexOk Request.refusalOf Request.requestAs Request.requestOf Rows.keep Rows.isBelow Rows.isAt Rows.isAbove Rows.heldFirst Rows.find Rows.put Rows.erase Rows.isUpTo Rows.downFrom Rows.ofKey Rows.edited Data.done Data.doneAnswer Data.resolvedOr Data.onto Data.belowDeltas Data.atWrite Data.atCell Data.atRow Data.atEnd Data.past Data.walk Data.readOf Data.versionedAnswer Data.readRuling Data.sameLength Data.sameBytes Data.sameExchanged Data.unlessDiffers Data.baseOver Data.baseOnto Data.setBaseValue Data.yields Data.mayWrite Data.writeValue Data.addDelta Data.markEstimate Data.remove Data.withShortcut Data.record-shortcut Data.materialized Data.materializeDelta Data.fetchData Group.firstTagged Group.valueOf Group.isSome Group.commitOver Group.commitNew Group.commitOne Group.commitRest Group.commit Group.commits Group.firstBase Group.agrees Group.allAgree Group.setRawBaseValues Group.replaced Group.exchangeRaw Group.exchangeIn Group.updateTaggedBaseValue Group.membersIn Group.outside Group.writeGroup Group.markGroup Group.removeGroup Group.nearest Group.latest Group.hasBase Group.dependencyAnswer Group.latestAnswer Group.fetchTaggedData Group.withBytes Group.withLatest Group.sizeOver Group.count Group.allTags Group.sizeAnswer Group.getGroupSize Group.setOf Group.valuesOf Group.committedAnswer Group.getLastCommittedGroup Group.finalizedTo Group.finalizeGroup Model.empty Model.dataHeld Model.updatesHeld Model.groupHeld Model.fits Model.workOf Model.ruled Model.withEntries Model.withUpdates Model.withCommits Model.perform Model.unlessRefused Model.ruling Model.unlessFull Model.step Model.leftBy Model.outcomeOf Model.after Model.turns Tickets.bitsOf Tickets.valuesIn Tickets.setAndValues Tickets.wordsOf Tickets._⟹_ Tickets._⇒_ Tickets.done Tickets.wroteOutside Tickets.uninitialized Tickets.tagNotFound Tickets.applicationFailure Tickets.versioned Tickets.atBase Tickets.resolved Tickets.unresolved Tickets.dependency Tickets.size Tickets.committed Tickets.valueWords Tickets.number Tickets.created Tickets.modified Tickets.deleted Tickets.rawCreated Tickets.rawModified Tickets.rawDeleted Tickets.tagged Tickets.plus Tickets.minus
+unfolding Words.digits Words.valueOfWords Delta.valid Delta.applyTo Delta.greater Delta.joined Delta.mergeable Delta.merge Delta.gathered Delta.accumulate Delta.isMinus Delta.signed Delta.numberAt Delta.minusZero Delta.minusAt Delta.deltaAt Delta.deltaOk Delta.signWord Delta.deltaWords Value.valueAt Value.writeOpKind Value.isCreation Value.isDeletion Value.isExchanged Value.byteLength Value.layoutOf Value.numberWords Value.hasNumber Value.numberIn Value.bytesLen Value.valueOk Response.response Table.row Table.at Table.table Table.rowOf Set.tagsFrom Set.tagsOf Set.membersOf Request.rowAt Request.countOf Request.tagsAt Request.tags Request.members Request.shapeOk Request.exchangedOk Request.rawOk Request.tagOk Request.all Request.fieldsOk Request.lastIndex Request.indexIn Request.indexOk Request.refusalOf Request.requestAs Request.requestOf Rows.keep Rows.isBelow Rows.isAt Rows.isAbove Rows.heldFirst Rows.find Rows.put Rows.erase Rows.isUpTo Rows.downFrom Rows.ofKey Rows.edited Data.done Data.doneAnswer Data.resolvedOr Data.onto Data.belowDeltas Data.atWrite Data.atCell Data.atRow Data.atEnd Data.past Data.walk Data.readOf Data.versionedAnswer Data.readRuling Data.sameLength Data.sameBytes Data.sameExchanged Data.unlessDiffers Data.baseOver Data.baseOnto Data.setBaseValue Data.yields Data.mayWrite Data.writeValue Data.addDelta Data.markEstimate Data.remove Data.withShortcut Data.record-shortcut Data.materialized Data.materializeDelta Data.fetchData Group.firstTagged Group.valueOf Group.isSome Group.commitOver Group.commitNew Group.commitOne Group.commitRest Group.commit Group.commits Group.firstBase Group.agrees Group.allAgree Group.setRawBaseValues Group.replaced Group.exchangeRaw Group.exchangeIn Group.updateTaggedBaseValue Group.membersIn Group.outside Group.writeGroup Group.markGroup Group.removeGroup Group.nearest Group.latest Group.hasBase Group.dependencyAnswer Group.latestAnswer Group.fetchTaggedData Group.withBytes Group.withLatest Group.sizeOver Group.count Group.allTags Group.sizeAnswer Group.getGroupSize Group.setOf Group.valuesOf Group.committedAnswer Group.getLastCommittedGroup Group.finalizedTo Group.finalizeGroup Model.empty Model.dataHeld Model.updatesHeld Model.groupHeld Model.fits Model.workOf Model.ruled Model.withEntries Model.withUpdates Model.withCommits Model.perform Model.unlessRefused Model.ruling Model.unlessFull Model.step Model.leftBy Model.outcomeOf Model.after Model.turns Tickets.bitsOf Tickets.valuesIn Tickets.setAndValues Tickets.wordsOf Tickets._⟹_ Tickets._⇒_ Tickets.done Tickets.wroteOutside Tickets.uninitialized Tickets.tagNotFound Tickets.applicationFailure Tickets.versioned Tickets.atBase Tickets.resolved Tickets.unresolved Tickets.dependency Tickets.size Tickets.committed Tickets.valueWords Tickets.number Tickets.created Tickets.modified Tickets.deleted Tickets.rawCreated Tickets.rawModified Tickets.rawDeleted Tickets.tagged Tickets.plus Tickets.minus
 run c = record { slots = c .slots; told = Model.turns (c .slots) Model.empty (map (λ turn. turn .request) (c .told)) }
 
 pub cases-hold : map run cases ≡ cases

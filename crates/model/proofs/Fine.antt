@@ -1,7 +1,7 @@
 -- Rule 5 is kept by every request: from fine stores, and words below 2^32, each request leaves fine stores.
 -- Assumes nothing.
 use mathlib.Core.Path.{_≡_, refl}
-use mathlib.Core.Bool.{Bool, true, false, cond, not, _&&_}
+use mathlib.Core.Bool.{Bool, true, false, cond, not}
 use mathlib.Core.List.{List, [], _∷_}
 use Prim.Native.Nat.{ℕ, zero, suc}
 use native.Mathlib.Omega.{arith}
@@ -28,21 +28,18 @@ empty-fine = refl
 -- ---- the parts of a fine model
 
 module _ (m : Model) (f : fine m ≡ true) where
-  pub fine-entries : fineEntries (m .entries) ≡ true
+  fine-parts : (fineEntries (m .entries) ≡ true) × (fineUpdates (m .updates) ≡ true) × (fineGroup (m .committed) ≡ true)
   unfolding fine
-  fine-entries =
-      and-left (fineEntries (m .entries)) (fineUpdates (m .updates))
-      (and-left (fineEntries (m .entries) && fineUpdates (m .updates)) (fineGroup (m .committed)) f)
+  fine-parts = and-three (fineEntries (m .entries)) (fineUpdates (m .updates)) (fineGroup (m .committed)) f
+
+  pub fine-entries : fineEntries (m .entries) ≡ true
+  fine-entries = fine-parts .0
 
   pub fine-updates : fineUpdates (m .updates) ≡ true
-  unfolding fine
-  fine-updates =
-      and-right (fineEntries (m .entries)) (fineUpdates (m .updates))
-      (and-left (fineEntries (m .entries) && fineUpdates (m .updates)) (fineGroup (m .committed)) f)
+  fine-updates = fine-parts .1
 
   pub fine-committed : fineGroup (m .committed) ≡ true
-  unfolding fine
-  fine-committed = and-right (fineEntries (m .entries) && fineUpdates (m .updates)) (fineGroup (m .committed)) f
+  fine-committed = fine-parts .2
 
 pub fine-tell : (m : Model) → fineEntries (m .entries) ≡ true → fineUpdates (m .updates) ≡ true → fineGroup (m .committed) ≡ true → fine m ≡ true
 unfolding fine

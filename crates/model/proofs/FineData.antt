@@ -13,7 +13,7 @@ use Rattle.types.specs.Value.{isExchanged}
 use Rattle.model.specs.Rows.{Row, rising, every, find, downFrom, Edit, leave, set, clear, edited}
 use Rattle.model.specs.Data.{Cell, write, delta, Entry, done, Ruling, refuse, accept, Read, versioned, resolved, unresolved, uninitialized, dependency, applicationFailure, refusal, readOf, doneAnswer, sameExchanged, sameBytes, unlessDiffers, baseOver, baseOnto, setBaseValue, mayWrite, writeValue, addDelta, markEstimate, remove, withShortcut, record-shortcut, materialized, materializeDelta}
 use Rattle.model.specs.Fine.{isWord, isNumber, fineValue, fineDelta, fineShortcut, fineCell, fineEntry, fineEntries, fineRead}
-use Rattle.model.proofs.Lists.{and-right, and-both}
+use Rattle.model.proofs.Lists.{and-left, and-right, and-both}
 use Rattle.model.proofs.Places.{rowAt}
 use Rattle.model.proofs.Maps.{passes, editPasses, every-find, every-downFrom, rising-every-edited}
 use Rattle.model.proofs.Walk.{word-tell, write-incarnation, write-value, write-side, delta-delta, readOf-fine}
@@ -54,12 +54,20 @@ edit-passes key place (set a) k p f =
     and-both (isWord key && isWord place) (fineCell place (a .estimate) (a .cell)) (and-both (isWord key) (isWord place) k p) f
 edit-passes key place clear k p f = refl
 
+module _ (rows : List (Row Entry)) (h : fineEntries rows ≡ true) where
+  pub entries-rising : rising rows ≡ true
+  unfolding fineEntries
+  entries-rising = and-left (rising rows) (every fineEntry rows) h
+
+  pub entries-every : every fineEntry rows ≡ true
+  unfolding fineEntries
+  entries-every = and-right (rising rows) (every fineEntry rows) h
+
 module _ (key place : ℕ) where
   -- what is found among fine rows is fine
   pub fine-find : (rows : List (Row Entry)) → fineEntries rows ≡ true → fineOwn place (find key place rows) ≡ true
-  unfolding fineEntries
   fine-find rows h =
-      own-passes key place (find key place rows) (every-find fineEntry key place rows (and-right (rising rows) (every fineEntry rows) h))
+      own-passes key place (find key place rows) (every-find fineEntry key place rows (entries-every rows h))
 
   -- an edit that is fine at its place keeps fine rows fine
   pub fine-edited : (e : Edit Entry) (rows : List (Row Entry)) → fineEntries rows ≡ true → isWord key ≡ true → isWord place ≡ true → fineEdit place e ≡ true → fineEntries (edited key place e rows) ≡ true
@@ -67,8 +75,7 @@ module _ (key place : ℕ) where
   fine-edited e rows h k p f = rising-every-edited fineEntry key place e rows (edit-passes key place e k p f) h
 
 pub fine-downFrom : (key reach : ℕ) (rows : List (Row Entry)) → fineEntries rows ≡ true → every fineEntry (downFrom key reach rows) ≡ true
-unfolding fineEntries
-fine-downFrom key reach rows h = every-downFrom fineEntry key reach rows (and-right (rising rows) (every fineEntry rows) h)
+fine-downFrom key reach rows h = every-downFrom fineEntry key reach rows (entries-every rows h)
 
 -- ---- fine cells
 

@@ -67,12 +67,29 @@ edit-passes key place (set u) k p f =
     ∙ and-both (isWord key && isWord place) (fineRecorded place u) (and-both (isWord key) (isWord place) k p) f
 edit-passes key place clear k p f = refl
 
+module _ (rows : List (Row Update)) (h : fineUpdates rows ≡ true) where
+  pub updates-rising : rising rows ≡ true
+  unfolding fineUpdates
+  updates-rising = and-left (rising rows) (every fineUpdate rows) h
+
+  pub updates-every : every fineUpdate rows ≡ true
+  unfolding fineUpdates
+  updates-every = and-right (rising rows) (every fineUpdate rows) h
+
+module _ (group : Committed) (h : fineGroup group ≡ true) where
+  pub group-rising : rising group ≡ true
+  unfolding fineGroup
+  group-rising = and-left (rising group) (every fineCommitted group) h
+
+  pub group-every : every fineCommitted group ≡ true
+  unfolding fineGroup
+  group-every = and-right (rising group) (every fineCommitted group) h
+
 module _ (key place : ℕ) where
   -- what is found among fine updates is fine
   pub fine-find-update : (rows : List (Row Update)) → fineUpdates rows ≡ true → fineOwnUpdate place (find key place rows) ≡ true
-  unfolding fineUpdates
   fine-find-update rows h =
-      own-passes key place (find key place rows) (every-find fineUpdate key place rows (and-right (rising rows) (every fineUpdate rows) h))
+      own-passes key place (find key place rows) (every-find fineUpdate key place rows (updates-every rows h))
 
   -- an edit that is fine at its place keeps fine updates fine
   pub fine-edited-update : (e : Edit Update) (rows : List (Row Update)) → fineUpdates rows ≡ true → isWord key ≡ true → isWord place ≡ true → fineUpdateEdit place e ≡ true → fineUpdates (edited key place e rows) ≡ true
@@ -82,31 +99,33 @@ module _ (key place : ℕ) where
 -- ---- the parts of a fine update
 
 module _ (r : Row Update) (f : fineUpdate r ≡ true) where
+  row-parts : (isWord (r .key) ≡ true) × (isWord (r .place) ≡ true) × (fineRecorded (r .place) (r .held) ≡ true)
+  row-parts = and-three (isWord (r .key)) (isWord (r .place)) (fineRecorded (r .place) (r .held)) (sym (update-is r) ∙ f)
+
+  pub update-key : isWord (r .key) ≡ true
+  update-key = row-parts .0
+
   pub update-place : isWord (r .place) ≡ true
-  update-place =
-      and-three (isWord (r .key)) (isWord (r .place)) (fineRecorded (r .place) (r .held)) (sym (update-is r) ∙ f) .1
+  update-place = row-parts .1
 
   pub update-recorded : fineRecorded (r .place) (r .held) ≡ true
-  update-recorded =
-      and-three (isWord (r .key)) (isWord (r .place)) (fineRecorded (r .place) (r .held)) (sym (update-is r) ∙ f) .2
+  update-recorded = row-parts .2
 
 module _ (place : ℕ) (u : Update) (f : fineRecorded place u ≡ true) where
-  pub update-incarnation : isWord (u .incarnation) ≡ true
+  update-parts : (isWord (u .incarnation) ≡ true) × (cond (eqb place 0) (eqb (u .incarnation) 0 && not (u .estimate)) true ≡ true) × (fineMembers place (u .members) ≡ true)
   unfolding fineRecorded
-  update-incarnation =
-      and-left (isWord (u .incarnation)) (cond (eqb place 0) (eqb (u .incarnation) 0 && not (u .estimate)) true)
-      (and-left (isWord (u .incarnation) && cond (eqb place 0) (eqb (u .incarnation) 0 && not (u .estimate)) true) (fineMembers place (u .members)) f)
+  update-parts =
+      and-three (isWord (u .incarnation)) (cond (eqb place 0) (eqb (u .incarnation) 0 && not (u .estimate)) true) (fineMembers place (u .members)) f
 
+  pub update-incarnation : isWord (u .incarnation) ≡ true
+  update-incarnation = update-parts .0
+
+  -- at the base, incarnation 0 and done
   pub update-side : cond (eqb place 0) (eqb (u .incarnation) 0 && not (u .estimate)) true ≡ true
-  unfolding fineRecorded
-  update-side =
-      and-right (isWord (u .incarnation)) (cond (eqb place 0) (eqb (u .incarnation) 0 && not (u .estimate)) true)
-      (and-left (isWord (u .incarnation) && cond (eqb place 0) (eqb (u .incarnation) 0 && not (u .estimate)) true) (fineMembers place (u .members)) f)
+  update-side = update-parts .1
 
   pub update-members : fineMembers place (u .members) ≡ true
-  unfolding fineRecorded
-  update-members =
-      and-right (isWord (u .incarnation) && cond (eqb place 0) (eqb (u .incarnation) 0 && not (u .estimate)) true) (fineMembers place (u .members)) f
+  update-members = update-parts .2
 
 -- ---- the rules of an update
 
@@ -139,15 +158,15 @@ pub put-committed : (key tag : ℕ) (v : List ℕ) (group : Committed) → fineG
 unfolding fineGroup fineCommitted rowAt
 put-committed key tag v group h k t f d =
     and-both (rising (put key tag v group)) (every fineCommitted (put key tag v group))
-    (rising-put key tag v group (and-left (rising group) (every fineCommitted group) h))
-    (every-put fineCommitted key tag v group (rw (k, t, f, d)) (and-right (rising group) (every fineCommitted group) h))
+    (rising-put key tag v group (group-rising group h))
+    (every-put fineCommitted key tag v group (rw (k, t, f, d)) (group-every group h))
 
 pub erase-committed : (key tag : ℕ) (group : Committed) → fineGroup group ≡ true → fineGroup (erase key tag group) ≡ true
 unfolding fineGroup
 erase-committed key tag group h =
     and-both (rising (erase key tag group)) (every fineCommitted (erase key tag group))
-    (rising-erase key tag group (and-left (rising group) (every fineCommitted group) h))
-    (every-erase fineCommitted key tag group (and-right (rising group) (every fineCommitted group) h))
+    (rising-erase key tag group (group-rising group h))
+    (every-erase fineCommitted key tag group (group-every group h))
 
 unfoldable pub fineOption : Option Committed → Bool
 fineOption none = true

@@ -21,30 +21,10 @@ use Rattle.request.specs.Request.{rowAt, countOf, tagsAt, tags, members, shapeO
 use Rattle.request.proofs.Tags.{AtLeast, Below, Rising, tags-below, tags-rising}
 use Rattle.model.specs.Rows.{every}
 use Rattle.model.specs.Fine.{isWord, fineValue, fineDelta, risingFrom, fineMember, fineMembers, fineRequest}
-use Rattle.model.proofs.Lists.{and-left, and-right, and-both}
+use Rattle.model.proofs.Lists.{and-left, and-right, and-both, and-three, every-take, every-drop, every-getD}
 use Rattle.model.proofs.Walk.{word-tell, every-words, delta-tell}
 
--- ---- words of a list
-
-module _ {A : Type 0} (t : A → Bool) where
-  pub every-take : (n : ℕ) (xs : List A) → every t xs ≡ true → every t (take n xs) ≡ true
-  unfolding every
-  every-take zero xs h = refl
-  every-take (suc n) [] h = refl
-  every-take (suc n) (x ∷ xs) h = and-both (t x) (every t (take n xs)) (and-left (t x) (every t xs) h) (every-take n xs (and-right (t x) (every t xs) h))
-
-  pub every-drop : (n : ℕ) (xs : List A) → every t xs ≡ true → every t (drop n xs) ≡ true
-  unfolding every
-  every-drop zero xs h = h
-  every-drop (suc n) [] h = refl
-  every-drop (suc n) (x ∷ xs) h = every-drop n xs (and-right (t x) (every t xs) h)
-
--- what passes for each element and the default passes for the one at any place
-pub every-getD : {A : Type 0} (t : A → Bool) (xs : List A) (d : A) → every t xs ≡ true → t d ≡ true → (i : ℕ) → t (getD xs i d) ≡ true
-unfolding every
-every-getD t [] d h g i = g
-every-getD t (x ∷ xs) d h g zero = and-left (t x) (every t xs) h
-every-getD t (x ∷ xs) d h g (suc i) = every-getD t xs d (and-right (t x) (every t xs) h) g i
+-- ---- values and deltas in words
 
 pub value-tell : (v : List ℕ) → length v ≡ valueWidth → every isWord v ≡ true → valueOk v ≡ true → fineValue v ≡ true
 unfolding fineValue
@@ -117,13 +97,11 @@ pub refusalOf-checked : (t : List ℕ) → refusalOf t ≡ 0 → Checked t
 unfolding refusalOf shapeOk indexOk
 refusalOf-checked t z =
     let n = none-refused (shapeOk t) (fieldsOk (rowAt t .kind) t) (indexOk t) z in
-    let two = and-left (ltb (rowAt t .fixed) (length t) && eqb (length t) (countOf t + 1)) (eqb (countOf t) (rowAt t .fixed + rowAt t .each * length (tags t))) (n .0) in
-    let count : countOf t ≡ rowAt t .fixed + rowAt t .each * length (tags t) =
-    eqb-true (countOf t) (rowAt t .fixed + rowAt t .each * length (tags t))
-    (and-right (ltb (rowAt t .fixed) (length t) && eqb (length t) (countOf t + 1)) (eqb (countOf t) (rowAt t .fixed + rowAt t .each * length (tags t))) (n .0)) in
+    let counted = rowAt t .fixed + rowAt t .each * length (tags t) in
+    let shape = and-three (ltb (rowAt t .fixed) (length t)) (eqb (length t) (countOf t + 1)) (eqb (countOf t) counted) (n .0) in
     record {
-      long = ltb-true (rowAt t .fixed) (length t) (and-left (ltb (rowAt t .fixed) (length t)) (eqb (length t) (countOf t + 1)) two);
-      exact = eqb-true (length t) (countOf t + 1) (and-right (ltb (rowAt t .fixed) (length t)) (eqb (length t) (countOf t + 1)) two) ∙ ap (λ (n : ℕ). n + 1) count;
+      long = ltb-true (rowAt t .fixed) (length t) (shape .0);
+      exact = eqb-true (length t) (countOf t + 1) (shape .1) ∙ ap (λ (c : ℕ). c + 1) (eqb-true (countOf t) counted (shape .2));
       fields = n .1;
       index = n .2;
     }

@@ -23,6 +23,7 @@ use Rattle.model.specs.Model.{Model, empty, Work, readData, editData, re
 use Rattle.model.specs.Tickets.{outcome, left}
 use Rattle.model.proofs.Lists.{and-left, keep-append, keep-stronger, keep-swap, keep-none, every-kept}
 use Rattle.model.proofs.Lookups.{find-edited-other}
+use Rattle.model.proofs.Rulings.{ruled-ruled, outcome-ruled, left-ruled, left-as}
 use Rattle.model.proofs.Rows.{Over, at-key, above-told, below-told}
 
 -- ---- the rows of one key
@@ -337,11 +338,6 @@ work-local (Request.finalize key index) = record { own = finalize-own key; other
 unfoldable pub only : ℕ → Model → Model
 only k m = record { entries = ofKey k (m .entries); updates = ofKey k (m .updates); committed = ofKey k (m .committed) }
 
-ruled-only : {A : Type 0} (k : ℕ) (f g : A → Model) → ((a : A) → f a ≡ only k (g a)) → (r : Ruling A) → ruled f r ≡ ruled (only k) (ruled g r)
-unfolding ruled
-ruled-only k f g h (refuse n) = refl
-ruled-only k f g h (accept answer a) = ap (accept answer) (h a)
-
 commits-only : (key place : ℕ) (m : Model) (r : Ruling Commits) → ruled (withCommits key place (only key m)) (ownCommits key r) ≡ ruled (only key) (ruled (withCommits key place m) r)
 unfolding ruled ownCommits withCommits only commits
 commits-only key place m (refuse n) = refl
@@ -353,27 +349,22 @@ perform-own : (w : Work) (m : Model) → LocalWork w → perform w (only (keyIn 
 unfolding perform keyIn LocalWork only withEntries withUpdates
 perform-own (readData key reach rule) m h =
     rw (downFrom-ofKey key (m .entries) reach)
-    (ruled-only key (λ same. only key m) (λ same. m) (λ a. refl) (rule (downFrom key reach (m .entries))))
+    (ruled-ruled (only key) (λ same. only key m) (λ same. m) (λ a. refl) (rule (downFrom key reach (m .entries))))
 perform-own (editData key place reach rule) m h =
     rw (find-ofKey key (m .entries) place, downFrom-ofKey key (m .entries) reach)
-    (ruled-only key (λ e. withEntries (only key m) (edited key place e (ofKey key (m .entries)))) (λ e. withEntries m (edited key place e (m .entries)))
+    (ruled-ruled (only key) (λ e. withEntries (only key m) (edited key place e (ofKey key (m .entries)))) (λ e. withEntries m (edited key place e (m .entries)))
     (λ e i. record { entries = sym (ofKey-edited key (m .entries) place e) i; updates = ofKey key (m .updates); committed = ofKey key (m .committed) })
     (rule (find key place (m .entries)) (downFrom key reach (m .entries))))
 perform-own (readGroup key reach rule) m h =
     rw (downFrom-ofKey key (m .updates) reach)
-    (ruled-only key (λ same. only key m) (λ same. m) (λ a. refl) (rule (downFrom key reach (m .updates))))
+    (ruled-ruled (only key) (λ same. only key m) (λ same. m) (λ a. refl) (rule (downFrom key reach (m .updates))))
 perform-own (editGroup key place rule) m h =
     rw (find-ofKey key (m .updates) place)
-    (ruled-only key (λ e. withUpdates (only key m) (edited key place e (ofKey key (m .updates)))) (λ e. withUpdates m (edited key place e (m .updates)))
+    (ruled-ruled (only key) (λ e. withUpdates (only key m) (edited key place e (ofKey key (m .updates)))) (λ e. withUpdates m (edited key place e (m .updates)))
     (λ e i. record { entries = ofKey key (m .entries); updates = sym (ofKey-edited key (m .updates) place e) i; committed = ofKey key (m .committed) })
     (rule (find key place (m .updates))))
 perform-own (commitGroup key place rule) m h =
     rw (find-ofKey key (m .updates) place, h .own (find key place (m .updates)) (m .committed)) (commits-only key place m (rule (find key place (m .updates)) (m .committed)))
-
-left-only : {A : Type 0} (l : ℕ) (m : Model) (f : A → Model) → ((a : A) → only l (f a) ≡ only l m) → (r : Ruling A) → only l (leftBy m (ruled f r)) ≡ only l m
-unfolding ruled leftBy
-left-only l m f h (refuse n) = refl
-left-only l m f h (accept answer a) = h a
 
 left-commits : (key place l : ℕ) → (l ≡ key → ⊥) → (m : Model) (r : Ruling Commits) → Kept l (m .committed) r → only l (leftBy m (ruled (withCommits key place m) r)) ≡ only l m
 unfolding ruled leftBy withCommits only
@@ -383,28 +374,18 @@ left-commits key place l apart m (accept answer c) h =
 
 perform-other : (w : Work) (m : Model) → LocalWork w → (l : ℕ) → (l ≡ keyIn w → ⊥) → only l (leftBy m (perform w m)) ≡ only l m
 unfolding perform keyIn LocalWork only withEntries withUpdates
-perform-other (readData key reach rule) m h l apart = left-only l m (λ same. m) (λ a. refl) (rule (downFrom key reach (m .entries)))
+perform-other (readData key reach rule) m h l apart = left-as (only l) m (λ same. m) (λ a. refl) (rule (downFrom key reach (m .entries)))
 perform-other (editData key place reach rule) m h l apart =
-    left-only l m (λ e. withEntries m (edited key place e (m .entries)))
+    left-as (only l) m (λ e. withEntries m (edited key place e (m .entries)))
     (λ e i. record { entries = ofKey-edited-other key (m .entries) l apart place e i; updates = ofKey l (m .updates); committed = ofKey l (m .committed) })
     (rule (find key place (m .entries)) (downFrom key reach (m .entries)))
-perform-other (readGroup key reach rule) m h l apart = left-only l m (λ same. m) (λ a. refl) (rule (downFrom key reach (m .updates)))
+perform-other (readGroup key reach rule) m h l apart = left-as (only l) m (λ same. m) (λ a. refl) (rule (downFrom key reach (m .updates)))
 perform-other (editGroup key place rule) m h l apart =
-    left-only l m (λ e. withUpdates m (edited key place e (m .updates)))
+    left-as (only l) m (λ e. withUpdates m (edited key place e (m .updates)))
     (λ e i. record { entries = ofKey l (m .entries); updates = ofKey-edited-other key (m .updates) l apart place e i; committed = ofKey l (m .committed) })
     (rule (find key place (m .updates)))
 perform-other (commitGroup key place rule) m h l apart =
     left-commits key place l apart m (rule (find key place (m .updates)) (m .committed)) (h .others l apart (find key place (m .updates)) (m .committed))
-
-outcome-ruled : (f : Model → Model) (r : Ruling Model) → outcomeOf (ruled f r) ≡ outcomeOf r
-unfolding outcomeOf ruled
-outcome-ruled f (refuse n) = refl
-outcome-ruled f (accept answer m) = refl
-
-left-ruled : (f : Model → Model) (m : Model) (r : Ruling Model) → leftBy (f m) (ruled f r) ≡ f (leftBy m r)
-unfolding leftBy ruled
-left-ruled f m (refuse n) = refl
-left-ruled f m (accept answer after) = refl
 
 -- What a request answers, and what it does to the rows of its key, depends on the rows of its key alone.
 pub outcome-only : (q : Request) (m : Model) → outcome q (only (keyOf q) m) ≡ outcome q m
@@ -439,11 +420,6 @@ placeIn (editData key place reach rule) = place
 placeIn (readGroup key reach rule) = 0
 placeIn (editGroup key place rule) = place
 placeIn (commitGroup key place rule) = place
-
-left-as : {A B : Type 0} (of : Model → B) (m : Model) (f : A → Model) → ((a : A) → of (f a) ≡ of m) → (r : Ruling A) → of (leftBy m (ruled f r)) ≡ of m
-unfolding ruled leftBy
-left-as of m f h (refuse n) = refl
-left-as of m f h (accept answer a) = h a
 
 module _ (k p : ℕ) where
   perform-entry : (w : Work) (m : Model) → (k ≡ keyIn w → p ≡ placeIn w → ⊥) → find k p (leftBy m (perform w m) .entries) ≡ find k p (m .entries)

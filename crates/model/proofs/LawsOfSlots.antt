@@ -13,6 +13,7 @@ use Rattle.model.specs.Data.{Ruling, refuse, accept, fetchData}
 use Rattle.model.specs.Group.{commits, getLastCommittedGroup, fetchTaggedData, getGroupSize}
 use Rattle.model.specs.Model.{Model, empty, Slots, dataHeld, updatesHeld, groupHeld, fits, workOf, ruled, withCommits, perform, ruling, refused, outcomeOf, unlessFull, step, leftBy, after}
 use Rattle.model.specs.Tickets.{left}
+use Rattle.model.proofs.Rulings.{left-as}
 use Rattle.model.proofs.Refusals.{NotFull, ruling-not-full}
 
 -- A refused request changes nothing, and a list may as well leave it out.
@@ -25,22 +26,17 @@ unfolding after
 refused-after s m request n later e = rw (refused-left s m request n e)
 
 -- A read changes nothing.
-left-read : {A : Type 0} (m : Model) (r : Ruling A) → leftBy m (ruled (λ same. m) r) ≡ m
-unfolding leftBy ruled
-left-read m (refuse n) = refl
-left-read m (accept answer a) = refl
-
 pub left-fetch : (key t : ℕ) (m : Model) → left (fetch key t) m ≡ m
 unfolding left workOf perform
-left-fetch key t m = left-read m (fetchData (downFrom key t (m .entries)))
+left-fetch key t m = left-as (λ n. n) m (λ same. m) (λ a. refl) (fetchData (downFrom key t (m .entries)))
 
 pub left-groupFetch : (key tag t : ℕ) (m : Model) → left (groupFetch key tag t) m ≡ m
 unfolding left workOf perform
-left-groupFetch key tag t m = left-read m (fetchTaggedData tag (downFrom key t (m .updates)))
+left-groupFetch key tag t m = left-as (λ n. n) m (λ same. m) (λ a. refl) (fetchTaggedData tag (downFrom key t (m .updates)))
 
 pub left-groupSize : (key t : ℕ) (m : Model) → left (groupSize key t) m ≡ m
 unfolding left workOf perform
-left-groupSize key t m = left-read m (getGroupSize (downFrom key t (m .updates)))
+left-groupSize key t m = left-as (λ n. n) m (λ same. m) (λ a. refl) (getGroupSize (downFrom key t (m .updates)))
 
 pub left-lastCommitted : (key : ℕ) (m : Model) → left (lastCommitted key) m ≡ m
 unfolding left workOf perform ruled getLastCommittedGroup leftBy withCommits commits edited

@@ -1,5 +1,6 @@
 pub mod Cases
 pub mod Lists
+pub mod Rulings
 pub mod Rows
 pub mod Places
 pub mod Lookups
@@ -14,6 +15,8 @@ pub mod LawsOfKeys
 pub mod LawsOfTags
 pub mod LawsOfGroups
 pub mod Reachable
+pub mod LawsOfSets
+pub mod LawsOfWords
 pub mod Maps
 pub mod Walk
 pub mod FineData

@@ -1,11 +1,11 @@
 -- Laws of `keep` and `every`, over any element.
 -- Assumes nothing.
-use mathlib.Core.Path.{_≡_, refl, sym, _∙_, ap}
-use mathlib.Core.Bool.{Bool, true, false, cond, not, _&&_}
+use mathlib.Core.Path.{_≡_, refl}
+use mathlib.Core.Bool.{Bool, true, false, _&&_}
 use mathlib.Core.List.{List, [], _∷_, _++_, reverse, reverse-cons, append-nil}
 use native.Mathlib.Omega.{arith}
-use Prim.Native.Nat.{ℕ, _+_, _≤_}
-use lib.ListN.{length}
+use Prim.Native.Nat.{ℕ, zero, suc, _<_}
+use lib.ListN.{length, getD, take, drop}
 use Rattle.model.specs.Rows.{keep, every}
 
 -- a conjunction's two parts
@@ -136,3 +136,29 @@ module _ {A : Type 0} where
       go true e false f ih = let g : false ≡ r x = rw (e, f) at (h x) in rw (f, ih, ← g)
       go false e true f ih = let g : false ≡ r x = rw e at (h x) in rw (f, e, ih, ← g)
       go false e false f ih = let g : false ≡ r x = rw e at (h x) in rw (f, ih, ← g)
+
+  pub every-take : (p : A → Bool) (n : ℕ) (xs : List A) → every p xs ≡ true → every p (take n xs) ≡ true
+  unfolding every
+  every-take p zero xs h = refl
+  every-take p (suc n) [] h = refl
+  every-take p (suc n) (x ∷ xs) h =
+      and-both (p x) (every p (take n xs)) (and-left (p x) (every p xs) h) (every-take p n xs (and-right (p x) (every p xs) h))
+
+  pub every-drop : (p : A → Bool) (n : ℕ) (xs : List A) → every p xs ≡ true → every p (drop n xs) ≡ true
+  unfolding every
+  every-drop p zero xs h = h
+  every-drop p (suc n) [] h = refl
+  every-drop p (suc n) (x ∷ xs) h = every-drop p n xs (and-right (p x) (every p xs) h)
+
+  -- the element at a position; past the end, the default
+  pub every-at : (p : A → Bool) (xs : List A) (i : ℕ) (d : A) → every p xs ≡ true → i < length xs → p (getD xs i d) ≡ true
+  unfolding every
+  every-at p [] i d h l = absurd (omega arith)
+  every-at p (x ∷ xs) zero d h l = and-left (p x) (every p xs) h
+  every-at p (x ∷ xs) (suc i) d h l = every-at p xs i d (and-right (p x) (every p xs) h) (omega arith)
+
+  pub every-getD : (p : A → Bool) (xs : List A) (d : A) → every p xs ≡ true → p d ≡ true → (i : ℕ) → p (getD xs i d) ≡ true
+  unfolding every
+  every-getD p [] d h g i = g
+  every-getD p (x ∷ xs) d h g zero = and-left (p x) (every p xs) h
+  every-getD p (x ∷ xs) d h g (suc i) = every-getD p xs d (and-right (p x) (every p xs) h) g i

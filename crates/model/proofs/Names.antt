@@ -1,20 +1,20 @@
 -- The table's index fields against what each kind's work edits and reads: a kept request works below t, a dropped one above it or finalises.
 -- Assumes nothing.
-use mathlib.Core.Path.{_≡_, refl, sym, _∙_, ap}
-use mathlib.Core.Bool.{Bool, true, false, cond, _&&_, _||_}
+use mathlib.Core.Path.{_≡_, refl}
+use mathlib.Core.Bool.{Bool, true, false, _&&_, _||_}
 use mathlib.Core.Logic.{_⊎_, inl, inr}
 use mathlib.Core.List.{List, [], _∷_}
-use mathlib.Core.Option.{Option, none, some}
+use mathlib.Core.Option.{none}
 use Prim.Native.Nat.{ℕ, zero, suc, _≤_, _<_, zero-le}
 use native.Mathlib.Omega.{arith}
 use lib.Dec.{leb, ltb, eqb}
 use lib.ListN.{getD}
-use borrow.Author.Tests.{ltb-true, ltb-false, leb-true, eqb-true, eqb-false, le-leb}
+use borrow.Author.Tests.{ltb-true, ltb-false, eqb-true, le-leb}
 use Rattle.request.specs.Table
 use Rattle.request.specs.Table.{Row, row, at, table, rowOf}
-use Rattle.request.specs.Request.{requestAs, rowAt}
+use Rattle.request.specs.Request.{requestAs}
 use Rattle.model.specs.Model.{workOf, Outcome}
-use Rattle.model.specs.Noninterference.{Named, namedIn, isRead, isFinalize, keptAs, isAnswered, finalizesFrom}
+use Rattle.model.specs.Noninterference.{namedIn, isRead, isFinalize, keptAs, isAnswered, finalizesFrom}
 use Rattle.model.proofs.Hidden.{Low, High}
 
 -- A row of the table fits the work of its kind.

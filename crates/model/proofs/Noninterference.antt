@@ -2,22 +2,21 @@
 -- spare; two lists with the same kept requests meet there.
 -- Assumes nothing.
 use mathlib.Core.Path.{_≡_, refl, sym, _∙_, ap}
-use mathlib.Core.Bool.{Bool, true, false, cond, not, _&&_, _||_}
+use mathlib.Core.Bool.{Bool, true, false, not, _&&_}
 use mathlib.Core.Logic.{_⊎_, inl, inr}
 use mathlib.Core.List.{List, [], _∷_}
-use mathlib.Core.Option.{Option, none, some}
-use Prim.Native.Nat.{ℕ, zero, suc, _≤_, _/_, _^_}
+use Prim.Native.Nat.{ℕ, zero, suc, _/_, _^_}
 use native.Mathlib.Omega.{arith}
-use lib.Dec.{eqb}
 use lib.ListN.{getD}
-use Rattle.request.specs.Request.{rowAt, requestOf, requestAs, refusalOf, shapeOk, fieldsOk, indexOk}
+use Rattle.request.specs.Request.{rowAt, requestOf, refusalOf, shapeOk, fieldsOk, indexOk}
 use Rattle.model.specs.Rows.{keep, every, rising}
 use Rattle.model.specs.Data.{Ruling, refuse, accept}
-use Rattle.model.specs.Model.{Model, Slots, empty, fits, ruled, perform, workOf, unlessRefused, ruling, unlessFull, step, leftBy, Outcome, outcomeOf, Turn, turns}
-use Rattle.model.specs.Noninterference.{names, namedIn, keptAs, isKept, kept, keptTurns, lacks, isAnswered, finalizesFrom, isQuiet, quiet, Noninterference}
+use Rattle.model.specs.Model.{Model, Slots, empty, fits, ruled, workOf, unlessRefused, ruling, unlessFull, step, leftBy, Outcome, outcomeOf, Turn, turns}
+use Rattle.model.specs.Noninterference.{names, namedIn, isKept, kept, keptTurns, lacks, isAnswered, finalizesFrom, isQuiet, quiet, Noninterference}
 use Rattle.model.proofs.Lists.{and-left, and-right}
-use Rattle.model.proofs.Hidden.{hide, Rising, Low, High, perform-low, perform-high, perform-rising}
-use Rattle.model.proofs.Names.{Sound, sound}
+use Rattle.model.proofs.Rulings.{outcome-ruled, left-ruled}
+use Rattle.model.proofs.Hidden.{hide, Rising, High, perform-low, perform-high, perform-rising}
+use Rattle.model.proofs.Names.{sound}
 
 -- The turns of a list with slots to spare.
 unfoldable free : Model → List (List ℕ) → List Turn
@@ -89,16 +88,6 @@ full-free s (accept answer m) h = go (fits s m) refl
 step-free : (s : Slots) (m : Model) (x : List ℕ) → lacks (outcomeOf (step s m x)) ≡ false → step s m x ≡ ruling m x
 unfolding step
 step-free s m x h = full-free s (ruling m x) h
-
-outcome-ruled : (f : Model → Model) (r : Ruling Model) → outcomeOf (ruled f r) ≡ outcomeOf r
-unfolding outcomeOf ruled
-outcome-ruled f (refuse n) = refl
-outcome-ruled f (accept answer m) = refl
-
-left-ruled : (f : Model → Model) (m : Model) (r : Ruling Model) → leftBy (f m) (ruled f r) ≡ f (leftBy m r)
-unfolding leftBy ruled
-left-ruled f m (refuse n) = refl
-left-ruled f m (accept answer after) = refl
 
 not-false : (b : Bool) → not b ≡ true → b ≡ false
 not-false true e = absurd (let y : _≡_ {A = ℕ} 0 1 = cc in omega arith)

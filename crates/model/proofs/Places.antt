@@ -2,20 +2,18 @@
 -- Assumes nothing.
 use mathlib.Core.Path.{_≡_, refl, sym, _∙_, ap, ap₂}
 use mathlib.Core.Bool.{Bool, true, false, cond, not, _&&_, _||_}
-use mathlib.Core.Logic.{_⊎_, inl, inr}
+use mathlib.Core.Logic.{inl, inr}
 use mathlib.Core.List.{List, [], _∷_, _++_, reverse, reverse-cons, reverse-append}
-use mathlib.Core.Option.{Option, none, some}
-use Prim.Native.Nat.{ℕ, zero, suc, _+_, _≤_, _<_}
-use native.Mathlib.Nat.{zero-lt-suc}
+use mathlib.Core.Option.{none, some}
+use Prim.Native.Nat.{ℕ, suc, _+_, _≤_, _<_}
 use native.Mathlib.Omega.{arith}
-use native.Mathlib.Numerals.{add-one}
 use lib.Dec.{leb, ltb, eqb, leb·suc-suc}
 use lib.ListN.{length, getD, set, take, drop, length-append}
 use lib.Seq.{take-suc, take-at, drop-at, getD-at, set-at, drop-drop}
-use borrow.Author.Tests.{ltb-true, ltb-false, leb-true, eqb-true, lt-ltb, le-ltb, le-leb, lt-leb, eq-eqb, ne-eqb}
+use borrow.Author.Tests.{leb-true, eqb-true, le-ltb, le-leb, eq-eqb}
 use Rattle.model.specs.Rows.{Row, keep, every, isBelow, isAt, isAbove, rising, heldFirst, find, put, erase, isUpTo, downFrom}
-use Rattle.model.proofs.Lists.{and-left, and-right, and-both, keep-append, keep-reverse, keep-stronger, keep-all, keep-none, every-imp, every-kept, every-reverse, keep-both}
-use Rattle.model.proofs.Rows.{Side, lower, here, upper, side, split, at-key, at-place, above-not-at, below-not-at, at-above, above-above, above-told, below-told, Over, rising-keep}
+use Rattle.model.proofs.Lists.{and-left, and-right, and-both, keep-append, keep-all, keep-none, every-imp, every-kept, every-reverse, keep-both}
+use Rattle.model.proofs.Rows.{Side, lower, here, upper, side, split, at-key, at-place, above-not-at, below-not-at, at-above, above-told, below-told, Over, rising-keep}
 
 -- How many rows stand below a key and place: the position of the row there, or where it would be inserted.
 unfoldable pub rank : {A : Type 0} → ℕ → ℕ → List (Row A) → ℕ

@@ -22,6 +22,7 @@ use Rattle.model.specs.Group
 use Rattle.model.specs.Group.{Update, Committed, commits, firstTagged, valueOf, isSome, commit, replaced}
 use Rattle.model.specs.Model.{Model, empty, Slots, fits, Work, readData, editData, readGroup, editGroup, commitGroup, workOf, ruled, withEntries, withUpdates, withCommits, perform, unlessRefused, ruling, unlessFull, step, leftBy, after}
 use Rattle.model.proofs.Lists.{and-left, and-both, every-keep, every-append}
+use Rattle.model.proofs.Rulings.{left-has}
 use Rattle.model.proofs.Hidden.{Rising, perform-rising}
 use Rattle.model.proofs.LawsOfGroups.{distinct}
 
@@ -244,17 +245,12 @@ unfolding ruled leftBy
 left-distinct f m to g h (refuse n) s = h
 left-distinct f m to g h (accept answer a) s = g a s
 
-left-same : {A : Type 0} (m : Model) (to : A → Model) → ((a : A) → Distinct (to a)) → Distinct m → (r : Ruling A) → Distinct (leftBy m (ruled to r))
-unfolding ruled leftBy
-left-same m to g h (refuse n) = h
-left-same m to g h (accept answer a) = g a
-
 perform-distinct : (w : Work) (m : Model) → Tagged w → Distinct m → Distinct (leftBy m (perform w m))
 unfolding perform Tagged Distinct withEntries withUpdates withCommits
-perform-distinct (readData key reach rule) m t h = left-same m (λ same. m) (λ a. h) h (rule (downFrom key reach (m .entries)))
+perform-distinct (readData key reach rule) m t h = left-has Distinct m (λ same. m) h (λ a. h) (rule (downFrom key reach (m .entries)))
 perform-distinct (editData key place reach rule) m t h =
-    left-same m (λ e. withEntries m (edited key place e (m .entries))) (λ a. h) h (rule (find key place (m .entries)) (downFrom key reach (m .entries)))
-perform-distinct (readGroup key reach rule) m t h = left-same m (λ same. m) (λ a. h) h (rule (downFrom key reach (m .updates)))
+    left-has Distinct m (λ e. withEntries m (edited key place e (m .entries))) h (λ a. h) (rule (find key place (m .entries)) (downFrom key reach (m .entries)))
+perform-distinct (readGroup key reach rule) m t h = left-has Distinct m (λ same. m) h (λ a. h) (rule (downFrom key reach (m .updates)))
 perform-distinct (editGroup key place rule) m t h =
     left-distinct (λ e. e) m (λ e. withUpdates m (edited key place e (m .updates))) (λ e s. edited-distinct key place e (m .updates) s h) h
     (rule (find key place (m .updates))) (t (find key place (m .updates)) (own-distinct key place (m .updates) h))

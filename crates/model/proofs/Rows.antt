@@ -1,17 +1,16 @@
 -- Laws of rows: the order of places, what an edit does to each look-up, and that rows stay rising.
 -- Assumes nothing.
 use mathlib.Core.Path.{_≡_, refl, sym, _∙_, ap}
-use mathlib.Core.Bool.{Bool, true, false, cond, not, _&&_, _||_}
+use mathlib.Core.Bool.{Bool, true, false, not, _&&_}
 use mathlib.Core.Logic.{_⊎_, inl, inr}
-use mathlib.Core.List.{List, [], _∷_, _++_, reverse, append-nil, append-assoc}
-use mathlib.Core.Option.{Option, none, some}
-use Prim.Native.Nat.{ℕ, _+_, _≤_, _<_}
+use mathlib.Core.List.{List, [], _∷_, _++_, reverse}
+use Prim.Native.Nat.{ℕ, _≤_, _<_}
 use native.Mathlib.Omega.{arith}
-use native.Mathlib.Decide.{decLt, decLe, ℕ-discrete}
+use native.Mathlib.Decide.{decLt}
 use lib.Dec.{leb, ltb, eqb}
-use borrow.Author.Tests.{ltb-true, ltb-false, leb-true, eqb-true, lt-ltb, le-ltb, le-leb, lt-leb, eq-eqb, ne-eqb}
-use Rattle.model.specs.Rows.{Row, keep, every, isBelow, isAt, isAbove, rising, heldFirst, find, put, erase, isUpTo, downFrom, ofKey, Edit, leave, set, clear, edited}
-use Rattle.model.proofs.Lists.{and-left, and-right, and-both, keep-append, keep-reverse, keep-stronger, keep-swap, keep-all, keep-none, every-imp, every-keep, every-kept, every-append}
+use borrow.Author.Tests.{ltb-true, leb-true, eqb-true, lt-ltb, le-ltb, le-leb, lt-leb, eq-eqb, ne-eqb}
+use Rattle.model.specs.Rows.{Row, keep, every, isBelow, isAt, isAbove, rising, heldFirst, find, put, erase, isUpTo, downFrom, Edit, leave, set, clear, edited}
+use Rattle.model.proofs.Lists.{and-left, and-right, and-both, keep-append, keep-stronger, keep-swap, keep-all, keep-none, every-imp, every-keep, every-kept, every-append}
 
 -- Where a row stands against a key and place: exactly one of the three tests passes.
 pub data Side {A : Type 0} (k p : ℕ) (r : Row A) : Type 0 where

@@ -21,7 +21,7 @@ use Rattle.types.specs.Value.{valueWidth, writeOpKind, byteLength, valueOk, lay
 use Rattle.model.specs.Rows.{Row, every, downFrom}
 use Rattle.model.specs.Data.{Cell, write, delta, Entry, Read, versioned, dependency, refusal, resolvedOr, onto, belowDeltas, atWrite, atCell, atRow, atEnd, past, walk, readOf}
 use Rattle.model.specs.Fine.{isWord, isNumber, fineValue, fineDelta, fineShortcut, fineCell, fineEntry, fineRead}
-use Rattle.model.proofs.Lists.{and-left, and-right, and-both, and-five}
+use Rattle.model.proofs.Lists.{and-left, and-right, and-both, and-three, and-five}
 use Rattle.model.proofs.Maps.{every-downFrom}
 
 -- ---- words and values
@@ -54,21 +54,21 @@ words-every [] g = refl
 words-every (w ∷ ws) g = and-both (isWord w) (every isWord ws) (word-tell w (g 0)) (words-every ws (λ i. g (suc i)))
 
 module _ (v : List ℕ) (f : fineValue v ≡ true) where
-  pub value-length : length v ≡ valueWidth
+  value-parts : (eqb (length v) valueWidth ≡ true) × (every isWord v ≡ true) × (valueOk v ≡ true)
   unfolding fineValue
-  value-length =
-      eqb-true (length v) valueWidth
-      (and-left (eqb (length v) valueWidth) (every isWord v) (and-left (eqb (length v) valueWidth && every isWord v) (valueOk v) f))
+  value-parts = and-three (eqb (length v) valueWidth) (every isWord v) (valueOk v) f
+
+  pub value-length : length v ≡ valueWidth
+  value-length = eqb-true (length v) valueWidth (value-parts .0)
+
+  pub value-every : every isWord v ≡ true
+  value-every = value-parts .1
 
   pub value-words : AreWords v
-  unfolding fineValue
-  value-words =
-      every-words v
-      (and-right (eqb (length v) valueWidth) (every isWord v) (and-left (eqb (length v) valueWidth && every isWord v) (valueOk v) f))
+  value-words = every-words v value-every
 
   pub value-ok : valueOk v ≡ true
-  unfolding fineValue
-  value-ok = and-right (eqb (length v) valueWidth && every isWord v) (valueOk v) f
+  value-ok = value-parts .2
 
   -- "byte length, at most 1,048,576"
   pub value-bytes : byteLength v ≤ 1048576
@@ -167,51 +167,46 @@ atWrite-fine failed place incarnation v g p i f = belowDeltas-fine failed place 
 -- ---- the parts of a fine row
 
 module _ (r : Row Entry) (f : fineEntry r ≡ true) where
-  pub entry-key : isWord (r .key) ≡ true
+  entry-parts : (isWord (r .key) ≡ true) × (isWord (r .place) ≡ true) × (fineCell (r .place) (r .held .estimate) (r .held .cell) ≡ true)
   unfolding fineEntry
-  entry-key =
-      and-left (isWord (r .key)) (isWord (r .place)) (and-left (isWord (r .key) && isWord (r .place)) (fineCell (r .place) (r .held .estimate) (r .held .cell)) f)
+  entry-parts = and-three (isWord (r .key)) (isWord (r .place)) (fineCell (r .place) (r .held .estimate) (r .held .cell)) f
+
+  pub entry-key : isWord (r .key) ≡ true
+  entry-key = entry-parts .0
 
   pub entry-place : isWord (r .place) ≡ true
-  unfolding fineEntry
-  entry-place =
-      and-right (isWord (r .key)) (isWord (r .place)) (and-left (isWord (r .key) && isWord (r .place)) (fineCell (r .place) (r .held .estimate) (r .held .cell)) f)
+  entry-place = entry-parts .1
 
   pub entry-cell : fineCell (r .place) (r .held .estimate) (r .held .cell) ≡ true
-  unfolding fineEntry
-  entry-cell = and-right (isWord (r .key) && isWord (r .place)) (fineCell (r .place) (r .held .estimate) (r .held .cell)) f
+  entry-cell = entry-parts .2
 
 module _ (place : ℕ) (estimate : Bool) (incarnation : ℕ) (v : List ℕ) (f : fineCell place estimate (write incarnation v) ≡ true) where
-  pub write-incarnation : isWord incarnation ≡ true
+  write-parts : (isWord incarnation ≡ true) × (fineValue v ≡ true) × (cond (eqb place 0) (eqb incarnation 0 && not estimate) (isExchanged v) ≡ true)
   unfolding fineCell
-  write-incarnation =
-      and-left (isWord incarnation) (fineValue v)
-      (and-left (isWord incarnation && fineValue v) (cond (eqb place 0) (eqb incarnation 0 && not estimate) (isExchanged v)) f)
+  write-parts = and-three (isWord incarnation) (fineValue v) (cond (eqb place 0) (eqb incarnation 0 && not estimate) (isExchanged v)) f
+
+  pub write-incarnation : isWord incarnation ≡ true
+  write-incarnation = write-parts .0
 
   pub write-value : fineValue v ≡ true
-  unfolding fineCell
-  write-value =
-      and-right (isWord incarnation) (fineValue v)
-      (and-left (isWord incarnation && fineValue v) (cond (eqb place 0) (eqb incarnation 0 && not estimate) (isExchanged v)) f)
+  write-value = write-parts .1
 
   pub write-side : cond (eqb place 0) (eqb incarnation 0 && not estimate) (isExchanged v) ≡ true
-  unfolding fineCell
-  write-side = and-right (isWord incarnation && fineValue v) (cond (eqb place 0) (eqb incarnation 0 && not estimate) (isExchanged v)) f
+  write-side = write-parts .2
 
 module _ (place : ℕ) (estimate : Bool) (d : Delta) (shortcut : Option ℕ) (f : fineCell place estimate (delta d shortcut) ≡ true) where
-  pub delta-place : not (eqb place 0) ≡ true
+  delta-parts : (not (eqb place 0) ≡ true) × (fineDelta d ≡ true) × (fineShortcut shortcut ≡ true)
   unfolding fineCell
-  delta-place =
-      and-left (not (eqb place 0)) (fineDelta d) (and-left (not (eqb place 0) && fineDelta d) (fineShortcut shortcut) f)
+  delta-parts = and-three (not (eqb place 0)) (fineDelta d) (fineShortcut shortcut) f
+
+  pub delta-place : not (eqb place 0) ≡ true
+  delta-place = delta-parts .0
 
   pub delta-delta : fineDelta d ≡ true
-  unfolding fineCell
-  delta-delta =
-      and-right (not (eqb place 0)) (fineDelta d) (and-left (not (eqb place 0) && fineDelta d) (fineShortcut shortcut) f)
+  delta-delta = delta-parts .1
 
   pub delta-shortcut : fineShortcut shortcut ≡ true
-  unfolding fineCell
-  delta-shortcut = and-right (not (eqb place 0) && fineDelta d) (fineShortcut shortcut) f
+  delta-shortcut = delta-parts .2
 
 -- ---- the walk over fine rows
 

@@ -1,7 +1,7 @@
 -- 01, "Data entry (versioned_data.rs; read by `fetch_data`)": what each request on a single value does.
 -- Each rule sees what stands at its own key and shifted index, or the rows that a reader sees, and nothing else.
 use mathlib.Core.Bool.{Bool, true, false, cond, not, _&&_}
-use mathlib.Core.List.{List, [], _∷_, _++_}
+use mathlib.Core.List.{List, [], _∷_}
 use mathlib.Core.Option.{Option, none, some}
 use Prim.Native.Nat.{ℕ, zero, suc, _-_}
 use lib.Dec.{ltb, eqb}

@@ -1,9 +1,9 @@
 -- The whole behaviour of 01 as one function: from the model of the two stores and a request's words to an outcome and the model after.
-use mathlib.Core.Bool.{Bool, true, false, cond, _&&_}
+use mathlib.Core.Bool.{Bool, cond, _&&_}
 use mathlib.Core.List.{List, [], _∷_}
 use mathlib.Core.Option.{Option}
 use Prim.Native.Nat.{ℕ, zero, suc, _+_}
-use lib.Dec.{leb, eqb}
+use lib.Dec.{leb}
 use lib.ListN.{length}
 use Rattle.request.specs.Request.{Request, refusalOf, requestOf}
 use Rattle.request.specs.Request as Ask

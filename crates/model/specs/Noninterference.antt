@@ -1,7 +1,7 @@
 -- 01, "The words of demand 3": what a request names, which requests are kept at t, and what the two lists of the theorem must be.
 use mathlib.Core.Path.{_≡_}
 use mathlib.Core.Bool.{Bool, true, false, cond, not, _&&_, _||_}
-use mathlib.Core.List.{List, [], _∷_}
+use mathlib.Core.List.{List}
 use mathlib.Core.Option.{Option, none, some}
 use Prim.Native.Nat.{ℕ}
 use lib.Dec.{leb, ltb, eqb}

@@ -1,5 +1,5 @@
 -- Rows in rising order of key and place: what a store holds, seen as a finite map. The place is a shifted index, or the tag of a committed value.
-use mathlib.Core.Bool.{Bool, true, false, cond, not, _&&_, _||_}
+use mathlib.Core.Bool.{Bool, true, cond, not, _&&_, _||_}
 use mathlib.Core.List.{List, [], _∷_, _++_, reverse}
 use mathlib.Core.Option.{Option, none, some}
 use Prim.Native.Nat.{ℕ}

@@ -1,9 +1,9 @@
 -- Sums, differences and comparisons by two digits, to any base B.
 -- Assumes nothing.
-use mathlib.Core.Path.{_≡_, refl, sym, ap, _∙_}
-use mathlib.Core.Bool.{Bool, true, false, cond}
-use Prim.Native.Nat.{ℕ, zero, suc, _+_, _-_, _*_, _/_, _%_, _≤_, _<_}
-use native.Mathlib.Nat.{add-mul-mod-self-right, add-mul, mul-assoc, mul-le-mul-right, mod-lt, mod-eq-of-lt, mod-eq-sub-mod, div-eq-of-lt, div-eq-sub-div, div-add-mod'}
+use mathlib.Core.Path.{_≡_, sym, ap, _∙_}
+use mathlib.Core.Bool.{cond}
+use Prim.Native.Nat.{ℕ, _+_, _-_, _*_, _/_, _%_, _≤_, _<_}
+use native.Mathlib.Nat.{add-mul-mod-self-right, add-mul, mul-assoc, mul-le-mul-right, mod-eq-of-lt, mod-eq-sub-mod, div-eq-of-lt, div-eq-sub-div}
 use native.Mathlib.Decide.{decLt}
 use native.Mathlib.Omega.{arith}
 use lib.Dec.{ltb}

@@ -3,11 +3,11 @@
 use mathlib.Core.Path.{_≡_, refl, sym, ap, ap₂, _∙_}
 use mathlib.Core.List.{List, [], _∷_, _++_}
 use Prim.Native.Nat.{ℕ, zero, suc, _+_, _*_, _/_, _%_, _^_, _≤_, _<_}
-use native.Mathlib.Nat.{add-zero, add-suc, suc-add, pow-succ', pow-zero, mul-assoc, mul-comm, mul-add, mul-le-mul-left, mod-lt, mod-eq-of-lt, div-eq-of-lt, mod-add-div, zero-add, add-mul-mod-self-left, add-mul-div-left, div-lt-iff-lt-mul}
+use native.Mathlib.Nat.{suc-add, pow-succ', pow-zero, mul-assoc, mul-comm, mul-add, mul-le-mul-left, mod-lt, mod-eq-of-lt, div-eq-of-lt, mod-add-div, zero-add, add-mul-mod-self-left, add-mul-div-left, div-lt-iff-lt-mul}
 use native.Mathlib.Numerals.{add-one}
 use native.Mathlib.Omega.{arith}
 use lib.Dec.{lit<}
-use lib.ListN.{length, getD, set, take, drop, length-take, length-drop}
+use lib.ListN.{length, getD, set, take, drop, length-drop}
 use lib.Seq.{sets, getD-drop, drop-cons, take-add, drop-drop, length-take-le}
 use Rattle.number.specs.declared.Number.{Number}
 use Rattle.number.specs.Number.{Halves, range, valueOf, numberOf}

@@ -2,8 +2,8 @@
 -- Assumes nothing.
 use mathlib.Core.Path.{_≡_, refl, sym, ap, _∙_}
 use mathlib.Core.Bool.{Bool, true, false, not, cond}
-use Prim.Native.Nat.{ℕ, zero, suc, _+_, _-_, _*_, _/_, _%_, _^_, _≤_, _<_, max}
-use native.Mathlib.Nat.{zero-add, mod-add-div', div-add-mod', mod-lt, mod-eq-of-lt, div-eq-of-lt, add-mul-mod-self-right, add-mul-div-right, div-lt-iff-lt-mul, mul-le-mul-right, max-eq-left, max-eq-right, le-of-lt, eq-of-mul-eq-mul-right}
+use Prim.Native.Nat.{ℕ, _+_, _-_, _*_, _/_, _%_, _^_, _≤_, _<_, max}
+use native.Mathlib.Nat.{zero-add, mod-add-div', div-add-mod', mod-lt, mod-eq-of-lt, div-eq-of-lt, add-mul-mod-self-right, add-mul-div-right, div-lt-iff-lt-mul, max-eq-left, max-eq-right, le-of-lt, eq-of-mul-eq-mul-right}
 use native.Mathlib.Decide.{decLt, ℕ-discrete}
 use native.Mathlib.Omega.{arith}
 use lib.Dec.{ltb, leb, eqb, lit<}

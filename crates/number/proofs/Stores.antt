@@ -1,13 +1,11 @@
 -- Runs of stores, `sets` of `lib.Seq`: one after another, and what stands where afterwards. The length stays by `length-sets` there.
 -- Assumes nothing.
-use mathlib.Core.Path.{_≡_, refl, sym, ap, _∙_}
-use mathlib.Core.Logic.{_≢_}
+use mathlib.Core.Path.{_≡_, refl, ap, _∙_}
 use mathlib.Core.List.{List, [], _∷_, _++_, append-assoc}
-use Prim.Native.Nat.{ℕ, zero, suc, _+_, _≤_, _<_, _^_}
+use Prim.Native.Nat.{ℕ, suc, _+_, _≤_, _<_, _^_}
 use native.Mathlib.Nat.{add-zero, add-suc, suc-add}
 use native.Mathlib.Decide.{ℕ-discrete, decLt}
 use native.Mathlib.Omega.{arith}
-use lib.Dec.{lit<}
 use lib.ListN.{length, getD, set, take, drop}
 use lib.Seq.{sets, sets-eq, set-out, getD-set-same, getD-set-other, take-at, drop-at, length-take-le}
 use Rattle.number.specs.Words.{AreWords}

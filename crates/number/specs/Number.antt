@@ -1,7 +1,7 @@
 -- A 128-bit number in two 64-bit halves, and what is exact about it.
 -- 01: "u128 becomes two halves"; "Sums are exact, never modulo 2^128, though halves are added with carry".
 -- Assumes nothing.
-use mathlib.Core.Bool.{Bool, true, false, cond}
+use mathlib.Core.Bool.{cond}
 use Prim.Native.Nat.{ℕ, _+_, _-_, _*_, _/_, _%_, _^_, _<_}
 use lib.Dec.{ltb}
 use Rattle.number.specs.declared.Number.{Number}

@@ -15,7 +15,7 @@ fn wide(x: u32) -> u64
 
 // The half that the two words at `at` hold.
 fn read_half(s: &[u32], at: usize) -> u64
-    requires { ⌜ at + 2 ≤ length (now s) ⌝ }
+    requires fits { ⌜ at + 2 ≤ length (now s) ⌝ }
     ensures value { λ r. ⌜ r ≡ valueOfWords (take 2 (drop at (now (s .entry)))) ⌝ }
 {
     let low = wide(s[at]);
@@ -25,7 +25,7 @@ fn read_half(s: &[u32], at: usize) -> u64
 
 // The number that the four words at `at` hold.
 pub fn read(s: &[u32], at: usize) -> Number
-    requires { ⌜ at + 4 ≤ length (now s) ⌝ }
+    requires fits { ⌜ at + 4 ≤ length (now s) ⌝ }
     ensures value { λ r. ⌜ r ≡ numberOf (valueOfWords (take 4 (drop at (now (s .entry))))) ⌝ }
 {
     let lo = read_half(s, at);
@@ -35,7 +35,7 @@ pub fn read(s: &[u32], at: usize) -> Number
 
 // Puts a half into the two words at `at`.
 fn write_half(s: &mut [u32], at: usize, half: u64)
-    requires { ⌜ at + 2 ≤ length (now s) ⌝ }
+    requires fits { ⌜ at + 2 ≤ length (now s) ⌝ }
     ensures written { λ _. ⌜ now (s .exit) ≡ sets (now (s .entry)) at (digits 2 half) ⌝ }
 {
     s[at] = (half % 4294967296) as u32;
@@ -44,7 +44,7 @@ fn write_half(s: &mut [u32], at: usize, half: u64)
 
 // Puts a number into the four words at `at`; the other words stay.
 pub fn write(s: &mut [u32], at: usize, n: Number)
-    requires { ⌜ at + 4 ≤ length (now s) ⌝ }
+    requires fits { ⌜ at + 4 ≤ length (now s) ⌝ }
     ensures written { λ _. ⌜ now (s .exit) ≡ sets (now (s .entry)) at (digits 4 (valueOf n)) ⌝ }
 {
     write_half(s, at, n.lo);

@@ -41,7 +41,7 @@ values-next : (e : Bool) (t : List ℕ) (place left : ℕ) → 0 < left
 unfolding valuesOk valueAt
 values-next e t place zero h = absurd (omega arith)
 values-next e t place (suc left) h =
-    let l : suc left - 1 ≡ left = omega arith in rw (l, ← drop-drop 7 place t) refl
+    let l : suc left - 1 ≡ left = omega arith in rw (l, ← drop-drop valueWidth place t) refl
 
 pub values-done : (e all-of : Bool) (left : ℕ) (ws : List ℕ) → all-of ≡ valuesOk e left ws → left ≤ 0 → true ≡ all-of
 unfolding valuesOk

@@ -8,6 +8,7 @@ use native.Mathlib.Omega.{arith}
 use lib.Dec.{eqb, ltb}
 use lib.ListN.{length, getD}
 use borrow.Author.Tests.{lt-ltb, le-ltb, eq-eqb, ne-eqb}
+use Rattle.types.specs.Value.{valueWidth}
 use Rattle.request.specs.Table.{rowOf}
 use Rattle.request.specs.Set.{tagsOf}
 use Rattle.request.specs.Request.{rowAt, countOf, tags, tagsAt, shapeOk}
@@ -62,9 +63,10 @@ pub record Inside (t : List ℕ) (row : CodeRow) : Type 0 where
   pub index-there : row .index ≤ row .fixed
 
 module _ (t : List ℕ) where
-  pub shape-empty : length t ≡ 0 → false ≡ shapeOk t
+  -- A head alone is no request either.
+  pub shape-empty : length t ≤ 1 → false ≡ shapeOk t
   unfolding shapeOk
-  shape-empty e = rw (le-ltb (rowAt t .fixed) (length t) (omega arith)) refl
+  shape-empty h = rw (le-ltb (rowAt t .fixed) (length t) (omega (arith, row-at-bounds t .fixed-pos))) refl
 
   module _ (row : CodeRow) (e : row ≡ layout (rowAt t)) where
     fixed-is : row .fixed ≡ rowAt t .fixed
@@ -109,7 +111,7 @@ module _ (t : List ℕ) where
           set-length : n ≡ length (tags t)
           set-length = l ∙ ap (λ (x : Set). length (tagsOf (x .low) (x .high))) s ∙ ap length (tags-setAt t)
 
-          pub values-le : row .each * n ≤ 448
+          pub values-le : row .each * n ≤ valueWidth * 64
           values-le = rw (each-is, l) (mul-le-mul (row-at-bounds t .each-le) (tags-length-le (set .low) (set .high)))
 
           pub shape-set : length t ≡ count + 1 → eqb count (row .fixed + row .each * n) ≡ shapeOk t

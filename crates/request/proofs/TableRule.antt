@@ -1,5 +1,5 @@
 -- The rule of the code's table: it is the table of `specs/`, row by row.
-use mathlib.Core.Path.{_≡_, refl}
+use mathlib.Core.Path.{_≡_, refl, ap}
 use mathlib.Core.Bool.{Bool, true, false, _&&_}
 use mathlib.Core.List.{List, [], _∷_, map}
 use mathlib.Core.Option.{Option, none, some}
@@ -8,20 +8,29 @@ use native.Mathlib.Omega.{arith}
 use lib.Dec.{ltb, leb}
 use lib.ListN.{length, getD}
 use borrow.Author.Tests.{ltb-true, leb-true}
+use Rattle.types.specs.Value.{valueWidth}
 use Rattle.request.specs.Table.{IndexField, Row, LastCommitted, row, table, rowOf}
 use Rattle.request.specs.Table.{at}
 use Rattle.request.specs.Request.{lastIndex}
 use Rattle.request.specs.Rows.{placeOf, lastOf, layout}
 use Rattle.request.specs.declared.table.Row.{Row as CodeRow}
+use Rattle.request.specs.declared.table.Cells.{Cells}
 
 getD-map : {A B : Type 0} (f : A → B) (l : List A) (i : ℕ) (a : A) (b : B) → i < length l → getD (map f l) i b ≡ f (getD l i a)
 getD-map f [] i a b h = absurd (omega arith)
 getD-map f (x ∷ l) zero a b h = refl
 getD-map f (x ∷ l) (suc i) a b h = getD-map f l i a b (omega arith)
 
-pub code-row : (rows : List CodeRow) → rows ≡ map layout table → (d : CodeRow) (k : ℕ) → k < 16 → getD rows k d ≡ layout (rowOf k)
+-- A row as the code's table has it: its cells, and the row that they make.
+abbrev pub cellsOf : Row → Cells
+cellsOf r = record { 0 = r .fixed; 1 = r .each; 2 = placeOf (r .index); 3 = lastOf (r .index) }
+
+abbrev fromCells : Cells → CodeRow
+fromCells c = record { fixed = c .0; each = c .1; index = c .2; last = c .3 }
+
+pub code-row : (rows : List Cells) → rows ≡ map cellsOf table → (d : Cells) (k : ℕ) → k < 16 → fromCells (getD rows k d) ≡ layout (rowOf k)
 unfolding table rowOf
-code-row rows e d k h = rw e (getD-map layout table k (row LastCommitted 1 0 none) d h)
+code-row rows e d k h = rw e (ap fromCells (getD-map cellsOf table k (row LastCommitted 1 0 none) d h))
 
 -- What holds of each row holds of the row of any number.
 every : (Row → Bool) → List Row → Bool
@@ -50,12 +59,12 @@ hasPlace (some f) = ltb 0 (f .place)
 pub record Bounds (r : Row) : Type 0 where
   pub fixed-pos : 0 < r .fixed
   pub fixed-le : r .fixed ≤ 19
-  pub each-le : r .each ≤ 7
+  pub each-le : r .each ≤ valueWidth
   pub place-le : placeOf (r .index) ≤ r .fixed
   pub placed : hasPlace (r .index) ≡ true
 
 within : Row → Bool
-within r = ltb 0 (r .fixed) && (leb (r .fixed) 19 && (leb (r .each) 7 && (leb (placeOf (r .index)) (r .fixed) && hasPlace (r .index))))
+within r = ltb 0 (r .fixed) && (leb (r .fixed) 19 && (leb (r .each) valueWidth && (leb (placeOf (r .index)) (r .fixed) && hasPlace (r .index))))
 
 rows-within : (k : ℕ) → within (rowOf k) ≡ true
 unfolding every within rowOf table row at placeOf hasPlace
@@ -66,11 +75,11 @@ unfolding within
 within-bounds r e =
     let f = and-right (ltb 0 (r .fixed)) _ e in
     let g = and-right (leb (r .fixed) 19) _ f in
-    let h = and-right (leb (r .each) 7) _ g in
+    let h = and-right (leb (r .each) valueWidth) _ g in
     record {
       fixed-pos = ltb-true 0 (r .fixed) (and-left _ _ e);
       fixed-le = leb-true (r .fixed) 19 (and-left _ _ f);
-      each-le = leb-true (r .each) 7 (and-left _ _ g);
+      each-le = leb-true (r .each) valueWidth (and-left _ _ g);
       place-le = leb-true (placeOf (r .index)) (r .fixed) (and-left _ _ h);
       placed = and-right (leb (placeOf (r .index)) (r .fixed)) _ h;
     }

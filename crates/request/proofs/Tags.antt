@@ -310,3 +310,35 @@ pub tags-length-le : (low high : ℕ) → length (tagsOf low high) ≤ 64
 unfolding tagsOf
 tags-length-le low high =
     omega (arith, length-append (tagsFrom 32 0 low) (tagsFrom 32 32 high), from-length 32 0 low, from-length 32 32 high)
+
+-- ---- a walk from the first tag on
+
+pub cons-first : (ts : List ℕ) → 0 < length ts → ts ≡ getD ts 0 64 ∷ drop 1 ts
+cons-first [] h = absurd (omega arith)
+cons-first (t ∷ ts) h = refl
+
+first-lt : (ts : List ℕ) → Below 64 ts → 0 < length ts → getD ts 0 64 < 64
+unfolding Below
+first-lt [] b h = absurd (omega arith)
+first-lt (t ∷ ts) b h = b .0
+
+first-out : (ts : List ℕ) → Below 64 ts → 64 ≤ getD ts 0 64 → ts ≡ []
+unfolding Below
+first-out [] b h = refl
+first-out (t ∷ ts) b h = absurd (omega (arith, b .0))
+
+rest-at-least : (ts : List ℕ) → Rising ts → 0 < length ts → AtLeast (suc (getD ts 0 64)) (drop 1 ts)
+unfolding Rising
+rest-at-least [] r h = absurd (omega arith)
+rest-at-least (t ∷ ts) r h = r .0
+
+module _ (low high : ℕ) where
+  pub first-below : 0 < length (tagsOf low high) → getD (tagsOf low high) 0 64 < 64
+  first-below h = first-lt (tagsOf low high) (tags-below low high) h
+
+  -- `Set::first` answers 64 only for the empty set.
+  pub first-none : 64 ≤ getD (tagsOf low high) 0 64 → tagsOf low high ≡ []
+  first-none h = first-out (tagsOf low high) (tags-below low high) h
+
+  pub rest-above : 0 < length (tagsOf low high) → AtLeast (suc (getD (tagsOf low high) 0 64)) (drop 1 (tagsOf low high))
+  rest-above h = rest-at-least (tagsOf low high) (tags-rising low high) h

@@ -8,6 +8,11 @@ ghost use lib.ListN.{length};
 ghost use Rattle.request.specs.Request.{rowAt};
 ghost use Rattle.request.specs.Fields.{kindAt, incarnationAs, tagAs, fieldsAt};
 
+// The places of an incarnation and of a tag, in the kinds that have one.
+const INCARNATION: usize = 3;
+
+const TAG: usize = 2;
+
 // A field that the kind does not have is 0. Values and deltas stay in the words of the request.
 pub struct Fields {
     pub kind: usize,
@@ -24,10 +29,10 @@ fn incarnation_of(t: &[u32]) -> u32
 {
     let kind = shape::kind_of(t);
     if kind == 2 {
-        return t[3];
+        return t[INCARNATION];
     }
     if kind == 10 {
-        return t[3];
+        return t[INCARNATION];
     }
     0
 }
@@ -38,10 +43,10 @@ fn tag_of(t: &[u32]) -> u32
 {
     let kind = shape::kind_of(t);
     if kind == 9 {
-        return t[2];
+        return t[TAG];
     }
     if kind == 13 {
-        return t[2];
+        return t[TAG];
     }
     0
 }

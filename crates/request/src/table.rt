@@ -16,110 +16,46 @@ pub struct Row {
     pub last: u32,
 }
 
+// The four of a row, in the order of its fields.
+struct Cells(usize, usize, usize, u32);
+
 const LAST: u32 = 4294967294;
 
-const TABLE: [Row; 16] = [
-    Row {
-        fixed: 1,
-        each: 0,
-        index: 0,
-        last: 0,
-    },
-    Row {
-        fixed: 1 + VALUE_WIDTH,
-        each: 0,
-        index: 0,
-        last: 0,
-    },
-    Row {
-        fixed: 3 + VALUE_WIDTH,
-        each: 0,
-        index: 2,
-        last: LAST,
-    },
-    Row {
-        fixed: 19,
-        each: 0,
-        index: 2,
-        last: LAST,
-    },
-    Row {
-        fixed: 2,
-        each: 0,
-        index: 2,
-        last: LAST,
-    },
-    Row {
-        fixed: 2,
-        each: 0,
-        index: 2,
-        last: LAST,
-    },
-    Row {
-        fixed: 2,
-        each: 0,
-        index: 2,
-        last: LAST,
-    },
-    Row {
-        fixed: 2,
-        each: 0,
-        index: 2,
-        last: 4294967293,
-    },
-    Row {
-        fixed: 3,
-        each: VALUE_WIDTH,
-        index: 0,
-        last: 0,
-    },
-    Row {
-        fixed: 2 + VALUE_WIDTH,
-        each: 0,
-        index: 0,
-        last: 0,
-    },
-    Row {
-        fixed: 5,
-        each: VALUE_WIDTH,
-        index: 2,
-        last: LAST,
-    },
-    Row {
-        fixed: 2,
-        each: 0,
-        index: 2,
-        last: LAST,
-    },
-    Row {
-        fixed: 2,
-        each: 0,
-        index: 2,
-        last: LAST,
-    },
-    Row {
-        fixed: 3,
-        each: 0,
-        index: 3,
-        last: LAST,
-    },
-    Row {
-        fixed: 2,
-        each: 0,
-        index: 2,
-        last: LAST,
-    },
-    Row {
-        fixed: 2,
-        each: 0,
-        index: 2,
-        last: LAST,
-    },
+// Materialising adds to an index twice.
+const LAST_MATERIALIZED: u32 = 4294967293;
+
+const TABLE: [Cells; 16] = [
+    // 0: last committed
+    Cells(1, 0, 0, 0),
+    // 1 to 7: base, write, delta, estimate, remove, fetch, materialize
+    Cells(1 + VALUE_WIDTH, 0, 0, 0),
+    Cells(3 + VALUE_WIDTH, 0, 2, LAST),
+    Cells(19, 0, 2, LAST),
+    Cells(2, 0, 2, LAST),
+    Cells(2, 0, 2, LAST),
+    Cells(2, 0, 2, LAST),
+    Cells(2, 0, 2, LAST_MATERIALIZED),
+    // 8 to 10: group base, exchange, group write
+    Cells(3, VALUE_WIDTH, 0, 0),
+    Cells(2 + VALUE_WIDTH, 0, 0, 0),
+    Cells(5, VALUE_WIDTH, 2, LAST),
+    // 11 to 15: group estimate, remove, fetch, size, finalize
+    Cells(2, 0, 2, LAST),
+    Cells(2, 0, 2, LAST),
+    Cells(3, 0, 3, LAST),
+    Cells(2, 0, 2, LAST),
+    Cells(2, 0, 2, LAST),
 ];
 
 pub fn row_of(kind: usize) -> Row
     requires four_bits { ⌜ kind < 16 ⌝ }
     ensures row { λ r. ⌜ r ≡ layout (rowOf kind) ⌝ }
 {
-    TABLE[kind]
+    let cells = TABLE[kind];
+    Row {
+        fixed: cells.0,
+        each: cells.1,
+        index: cells.2,
+        last: cells.3,
+    }
 }

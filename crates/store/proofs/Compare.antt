@@ -1,9 +1,9 @@
 -- Comparing a slot's first four words, word by word as they are read.
 -- Assumes nothing.
-use mathlib.Core.Path.{_≡_, refl, sym, _∙_, ap}
+use mathlib.Core.Path.{_≡_, refl, sym, _∙_}
 use mathlib.Core.Bool.{Bool, true, false, not, _&&_, _||_}
 use mathlib.Core.List.{List, [], _∷_}
-use Prim.Native.Nat.{ℕ, zero, suc, _+_, _*_, _≤_, _<_}
+use Prim.Native.Nat.{ℕ, _+_, _*_, _≤_, _<_}
 use native.Mathlib.Omega.{arith}
 use lib.Dec.{ltb, eqb}
 use lib.ListN.{length, getD, take}
@@ -50,13 +50,23 @@ module _ (i : ℕ) (s : List ℕ) (h : i < slotsIn (length s)) where
   unfolding isUsed
   used-word = rw (slotAt-word i 0 s (omega arith))
 
-  pub unused-before : (k : List ℕ) → getD s (slotWidth * i + 0) 0 ≡ 0 → false ≡ (isUsed (slotAt i s) && before (take 4 (slotAt i s)) k)
-  unused-before k e = rw (used-word, e)
+  pub word-used : (x : ℕ) → x ≡ getD s (slotWidth * i + 0) 0 → (x ≡ 0 → ⊥) → isUsed (slotAt i s) ≡ true
+  word-used x e f = used-word ∙ rw (← e, ne-eqb x 0 f)
 
-  pub used-before : (k : List ℕ) (x y z t : ℕ) (r : Bool) → x ≡ getD s (slotWidth * i + 0) 0 → y ≡ getD s (slotWidth * i + 1) 0 → z ≡ getD s (slotWidth * i + 2) 0 → t ≡ getD s (slotWidth * i + 3) 0 →
-      (x ≡ 0 → ⊥) → r ≡ before (x ∷ y ∷ z ∷ t ∷ []) k → r ≡ (isUsed (slotAt i s) && before (take 4 (slotAt i s)) k)
-  used-before k x y z t r e f g m n p =
-      rw (used-word, ← e, ne-eqb x 0 n, slot-four x y z t e f g m) p
+  pub word-unused : (x : ℕ) → x ≡ getD s (slotWidth * i + 0) 0 → x ≡ 0 → isUsed (slotAt i s) ≡ false
+  word-unused x e f = used-word ∙ rw (← e, f)
+
+  -- a slot before a place: one that is not in use is not
+  pub four-before : (k : List ℕ) (x y z t : ℕ) (r : Bool) → x ≡ getD s (slotWidth * i + 0) 0 → y ≡ getD s (slotWidth * i + 1) 0 → z ≡ getD s (slotWidth * i + 2) 0 → t ≡ getD s (slotWidth * i + 3) 0 →
+      r ≡ before (x ∷ y ∷ z ∷ t ∷ []) k → r ≡ before (take 4 (slotAt i s)) k
+  four-before k x y z t r e f g m p = rw (slot-four x y z t e f g m) p
+
+  module _ (k : List ℕ) (x : ℕ) (e : x ≡ getD s (slotWidth * i + 0) 0) where
+    pub unused-before : x ≡ 0 → false ≡ (isUsed (slotAt i s) && before (take 4 (slotAt i s)) k)
+    unused-before f = rw (word-unused x e f)
+
+    pub used-before : (x ≡ 0 → ⊥) → (r : Bool) → r ≡ before (take 4 (slotAt i s)) k → r ≡ (isUsed (slotAt i s) && before (take 4 (slotAt i s)) k)
+    used-before f r g = rw (word-used x e f) g
 
   -- a slot at a place: the first word that differs says no, and the last decides
   module _ (a b c d : ℕ) where
@@ -80,8 +90,9 @@ module _ (i : ℕ) (s : List ℕ) (h : i < slotsIn (length s)) where
         at-fourth az t et =
             rw (at-words, ← ex, ← ey, ← ez, ← et, eq-eqb x a ax, eq-eqb y b ay, eq-eqb z c az) (and-swap true (eqb t d))
 
-  pub is-before-words : (j : ℕ) (r : Bool) (x y z t a b c d : ℕ) → j < slotsIn (length s) →
-      x ≡ getD s (slotWidth * i + 0) 0 → y ≡ getD s (slotWidth * i + 1) 0 → z ≡ getD s (slotWidth * i + 2) 0 → t ≡ getD s (slotWidth * i + 3) 0 →
-      take 4 (slotAt j s) ≡ a ∷ b ∷ c ∷ d ∷ [] → r ≡ before (x ∷ y ∷ z ∷ t ∷ []) (a ∷ b ∷ c ∷ d ∷ []) → r ≡ isBefore (slotAt i s) (slotAt j s)
-  unfolding isBefore
-  is-before-words j r x y z t a b c d g e f k m n p = rw (slot-four x y z t e f k m, n) p
+-- a slot before another
+pub slot-before : (i j : ℕ) (s : List ℕ) (a b c d : ℕ) (r : Bool) → j < slotsIn (length s) →
+    a ≡ getD s (slotWidth * j + 0) 0 → b ≡ getD s (slotWidth * j + 1) 0 → c ≡ getD s (slotWidth * j + 2) 0 → d ≡ getD s (slotWidth * j + 3) 0 →
+    r ≡ before (take 4 (slotAt i s)) (a ∷ b ∷ c ∷ d ∷ []) → r ≡ isBefore (slotAt i s) (slotAt j s)
+unfolding isBefore
+slot-before i j s a b c d r h e f g m p = rw (slot-four j s h a b c d e f g m) p

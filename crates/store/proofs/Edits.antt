@@ -1,17 +1,17 @@
 -- An edit of a store's words is the edit of the list of its slots.
 -- Assumes nothing.
-use mathlib.Core.Path.{_≡_, refl, sym, _∙_, ap}
-use mathlib.Core.Bool.{Bool, true, false, cond, not, _&&_}
-use mathlib.Core.List.{List, [], _∷_, _++_, append-assoc, append-nil}
-use Prim.Native.Nat.{ℕ, zero, suc, _+_, _-_, _*_, _≤_, _<_}
+use mathlib.Core.Path.{_≡_, sym, _∙_, ap}
+use mathlib.Core.Bool.{Bool, true, _&&_}
+use mathlib.Core.List.{List, [], _∷_, _++_, append-assoc}
+use Prim.Native.Nat.{ℕ, suc, _+_, _-_, _*_, _≤_, _<_}
 use native.Mathlib.Omega.{arith}
 use native.Mathlib.Numerals.{add-one}
-use lib.ListN.{length, getD, take, drop, set, replicate, length-append, length-take, length-drop, length-replicate, length-set, take-append-drop}
+use lib.ListN.{length, getD, take, drop, set, replicate, length-append, length-drop, length-replicate, length-set}
 use lib.Seq.{length-take-le, take-at, drop-at, drop-drop, take-take, take-append-le, set-append-left, set-split}
-use Rattle.store.specs.Slots.{Slot, slotWidth, slotsIn, flat, encode, slotAt, isWhole, isUsed, every, opened, closed, written, inserted, removed}
+use Rattle.store.specs.Slots.{Slot, slotWidth, slotsIn, flat, encode, isWhole, every, opened, closed, written, inserted, removed}
 use Rattle.store.proofs.Lists.{and-both, every-append, every-take, every-drop, every-at, set-append-add}
-use Rattle.store.proofs.Words.{whole-length, slots-inside, slot-inside, length-flat, flat-append, flat-split, flat-at, length-flat-take, length-flat-drop}
-use Rattle.store.proofs.Encode.{free, encode-free, length-free, free-less, length-encode, take-encode, drop-encode, drop-encode-all}
+use Rattle.store.proofs.Words.{whole-length, slots-inside, flat-append, flat-at, length-flat-take, length-flat-drop}
+use Rattle.store.proofs.Encode.{free, encode-free, free-less, length-encode, take-encode, drop-encode, drop-encode-all}
 
 -- edits of a list of slots keep what holds of each
 module _ {A : Type 0} (i : ℕ) (us : List A) where

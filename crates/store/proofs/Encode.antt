@@ -1,17 +1,15 @@
 -- A store that holds slots: what is written is held, a packed store is the encoding of what it holds, and how its words are read.
 -- Assumes nothing.
 use mathlib.Core.Path.{_≡_, refl, sym, _∙_, ap}
-use mathlib.Core.Bool.{Bool, true, false, cond, not, _&&_}
-use mathlib.Core.List.{List, [], _∷_, _++_, append-assoc, append-nil}
+use mathlib.Core.Bool.{true, false}
+use mathlib.Core.List.{List, [], _++_, append-assoc, append-nil}
 use Prim.Native.Nat.{ℕ, zero, suc, _+_, _-_, _*_, _≤_, _<_}
 use native.Mathlib.Omega.{arith}
-use lib.Dec.{ltb, eqb}
 use lib.ListN.{length, getD, take, drop, replicate, length-append, length-drop, length-replicate, take-append-drop, getD-replicate, List·getD-append, replicate-append-replicate}
-use lib.Seq.{length-take-le, take-at, drop-at, drop-drop, take-add, getD-take}
-use borrow.Author.Tests.{eqb-true, eq-eqb, lt-ltb, le-ltb}
-use Rattle.store.specs.Slots.{Slot, slotWidth, slotsIn, flat, encode, slots, slotAt, isWhole, isUsed, front, held, every, ordered, allZero, isZeroFrom, packed}
-use Rattle.store.proofs.Lists.{and-left, and-right, every-take, every-drop, every-at, every-front, front-take, length-front, front-append, front-long, front-stop, front-none, allZero-replicate, allZero-told}
-use Rattle.store.proofs.Words.{slots-inside, slot-inside, length-flat, flat-split, flat-at, length-flat-take, length-flat-drop, length-slots, slots-add, take-slots, every-whole, slots-flat, flat-slots, slots-at, slotAt-word}
+use lib.Seq.{length-take-le, take-at, drop-at, drop-drop, getD-take}
+use Rattle.store.specs.Slots.{Slot, slotWidth, slotsIn, flat, encode, slots, slotAt, isWhole, isUsed, front, held, every, ordered, isZeroFrom, packed}
+use Rattle.store.proofs.Lists.{and-left, and-right, every-take, every-front, front-take, length-front, front-append, front-long, front-stop, allZero-replicate, allZero-told}
+use Rattle.store.proofs.Words.{slots-inside, length-flat, flat-split, length-flat-take, length-slots, slots-add, take-slots, every-whole, slots-flat, flat-slots, slots-at, slotAt-word}
 
 -- What follows n slots in use: zeros up to the last slot, and the words past it.
 unfoldable pub free : List ℕ → ℕ → List ℕ

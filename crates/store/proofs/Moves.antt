@@ -1,13 +1,13 @@
 -- Loops that move words: the words after each turn, from those at entry.
 -- Assumes nothing.
 use mathlib.Core.Path.{_≡_, refl, sym, _∙_, ap}
-use mathlib.Core.List.{List, [], _∷_, _++_, append-assoc, append-nil}
-use Prim.Native.Nat.{ℕ, zero, suc, _+_, _-_, _*_, _≤_, _<_}
+use mathlib.Core.List.{List, [], _∷_, _++_, append-assoc}
+use Prim.Native.Nat.{ℕ, suc, _+_, _-_, _*_, _≤_, _<_}
 use native.Mathlib.Omega.{arith}
 use native.Mathlib.Numerals.{add-one}
-use lib.ListN.{length, getD, take, drop, set, replicate, length-append, length-take, length-drop, length-replicate, take-append-drop, getD-replicate, List·getD-append}
+use lib.ListN.{length, getD, take, drop, set, replicate, length-append, length-drop, length-replicate, take-append-drop, getD-replicate, List·getD-append}
 use lib.Seq.{length-take-le, take-suc, drop-cons, append-snoc, take-at, drop-at, drop-drop, getD-take, getD-drop, set-at, take-all, getD-append-add}
-use Rattle.store.specs.Slots.{Slot, slotWidth, slotsIn, opened, closed, written}
+use Rattle.store.specs.Slots.{slotWidth, slotsIn, opened, closed, written}
 use Rattle.store.proofs.Words.{slots-inside}
 
 -- The first n words of `w` written over those of `d` from index `at`.

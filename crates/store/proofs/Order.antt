@@ -1,19 +1,18 @@
 -- The order of slots: `before` is a strict order, a place splits slots in order, and edits at a place keep the order.
 -- Assumes nothing.
-use mathlib.Core.Path.{_≡_, refl, sym, _∙_, ap}
-use mathlib.Core.Bool.{Bool, true, false, cond, not, _&&_, _||_}
+use mathlib.Core.Path.{_≡_, refl, sym, _∙_}
+use mathlib.Core.Bool.{Bool, true, false, _&&_}
 use mathlib.Core.Logic.{_⊎_, inl, inr}
-use mathlib.Core.List.{List, [], _∷_, _++_, append-assoc, append-nil}
-use Prim.Native.Nat.{ℕ, zero, suc, _+_, _-_, _*_, _≤_, _<_}
+use mathlib.Core.List.{List, [], _∷_, _++_}
+use Prim.Native.Nat.{ℕ, zero, suc, _+_, _<_}
 use native.Mathlib.Omega.{arith}
-use native.Mathlib.Decide.{decLt, decLe, ℕ-discrete}
+use native.Mathlib.Decide.{decLt}
 use lib.Dec.{ltb, eqb}
-use lib.ListN.{length, getD, take, drop, set, length-append, length-take, length-drop, take-append-drop}
-use lib.Seq.{length-take-le, drop-drop, drop-cons}
-use borrow.Author.Tests.{ltb-true, ltb-false, eqb-true, eqb-false, lt-ltb, le-ltb, eq-eqb, ne-eqb}
-use Rattle.store.specs.Slots.{Slot, isWhole, front, before, isBefore, same, isAt, every, ordered, neighbours, placeOf, inserted, removed}
-use Rattle.store.proofs.Lists.{and-left, and-right, and-both, and-assoc, and-swap, true-not-false, same-test, every-append, every-imp, every-take, every-drop, every-at, every-set, every-front, front-take, length-front}
-use Rattle.store.proofs.Words.{whole-length}
+use lib.ListN.{length, getD, take, drop, set, take-append-drop}
+use lib.Seq.{drop-drop}
+use borrow.Author.Tests.{ltb-true, eqb-true, lt-ltb, le-ltb, eq-eqb}
+use Rattle.store.specs.Slots.{Slot, before, isBefore, same, every, ordered, neighbours, removed}
+use Rattle.store.proofs.Lists.{and-left, and-right, and-both, and-assoc, and-swap, true-not-false, same-test, every-append, every-imp, every-drop, every-at, every-set}
 
 -- the order of two lists, as facts on their heads
 unfoldable pub Earlier : ℕ → ℕ → List ℕ → List ℕ → Type 0

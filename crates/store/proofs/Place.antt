@@ -1,21 +1,21 @@
 -- The place of four words among slots in order: it splits them, search finds it, and inserting there keeps the order.
 -- Assumes nothing.
 use mathlib.Core.Path.{_≡_, refl, sym, _∙_, ap}
-use mathlib.Core.Bool.{Bool, true, false, cond, not, _&&_, _||_}
-use mathlib.Core.List.{List, [], _∷_, _++_}
-use Prim.Native.Nat.{ℕ, zero, suc, _+_, _-_, _*_, _≤_, _<_}
+use mathlib.Core.Bool.{Bool, true, false, cond, not, _&&_}
+use mathlib.Core.List.{List, [], _∷_}
+use Prim.Native.Nat.{ℕ, _+_, _-_, _*_, _≤_, _<_}
 use native.Mathlib.Omega.{arith}
 use native.Mathlib.Decide.{decLt}
-use lib.Dec.{ltb, eqb}
-use lib.ListN.{length, getD, take, drop, length-drop, take-append-drop, List·getD-eq-default}
-use lib.Seq.{length-take-le, getD-take, getD-drop, drop-cons}
-use borrow.Author.Tests.{not-true, not-false, ltb-true, ltb-false, lt-ltb, le-ltb, ne-eqb}
+use lib.Dec.{ltb}
+use lib.ListN.{length, getD, take, drop, length-drop, List·getD-eq-default}
+use lib.Seq.{length-take-le, getD-take, getD-drop}
+use borrow.Author.Tests.{not-true, ltb-true, ltb-false, lt-ltb, le-ltb}
 use Rattle.store.specs.Slots.{Slot, slotWidth, slotsIn, isWhole, isUsed, slotAt, held, packed, encode, front, before, isBefore, same, isAt, every, ordered, placeOf, inserted}
-use Rattle.store.proofs.Lists.{and-left, and-right, and-both, true-not-false, same-test, every-append, every-imp, every-at, every-of, every-both, every-front, front-take, length-front, front-all, front-append, front-none}
+use Rattle.store.proofs.Lists.{and-left, and-right, and-both, true-not-false, every-imp, every-at, every-of, every-both, every-front, front-take, length-front}
 use Rattle.store.proofs.Words.{whole-length}
 use Rattle.store.proofs.Encode.{held-whole, held-used, held-fits, packed-ordered, encode-held, slotAt-encode, unused-encode}
-use Rattle.store.proofs.Compare.{used-word}
-use Rattle.store.proofs.Order.{before-irrefl, before-trans, before-asym, Side, lower, level, upper, side, same-true, same-refl, isBefore-trans, ordered-append, ordered-take, ordered-drop, ordered-halves, ordered-at}
+use Rattle.store.proofs.Compare.{word-used, word-unused}
+use Rattle.store.proofs.Order.{before-irrefl, before-trans, Side, lower, level, upper, side, same-true, same-refl, ordered-append, ordered-take, ordered-drop, ordered-halves, ordered-at}
 
 module _ (k : List ℕ) where
   pub place-fits : (us : List Slot) → placeOf k us ≤ length us
@@ -212,10 +212,10 @@ module _ (s : List ℕ) (rising : packed s ≡ true) (i : ℕ) (h : i < slotsIn 
   search-down k r e f = ltb-false i (placeOf k (held s)) (sym (search-test k) ∙ sym e ∙ f)
 
   pub used-up : (x : ℕ) → x ≡ getD s (slotWidth * i + 0) 0 → (x ≡ 0 → ⊥) → i + 1 ≤ length (held s)
-  used-up x e f = omega (arith, ltb-true i (length (held s)) (sym used-test ∙ used-word i s h ∙ rw (← e, ne-eqb x 0 f)))
+  used-up x e f = omega (arith, ltb-true i (length (held s)) (sym used-test ∙ word-used i s h x e f))
 
   pub used-down : (x : ℕ) → x ≡ getD s (slotWidth * i + 0) 0 → x ≡ 0 → length (held s) ≤ i
-  used-down x e f = ltb-false i (length (held s)) (sym used-test ∙ used-word i s h ∙ rw (← e, f))
+  used-down x e f = ltb-false i (length (held s)) (sym used-test ∙ word-unused i s h x e f)
 
 -- a search ends at the place
 pub place-inside : (k s : List ℕ) (n : ℕ) → n ≡ slotsIn (length s) → placeOf k (held s) ≤ n

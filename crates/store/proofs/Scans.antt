@@ -1,17 +1,17 @@
 -- Scans: the turns of a loop over words that are to be zero, and of one that tests each slot and each two neighbours.
 -- Assumes nothing.
 use mathlib.Core.Path.{_≡_, refl, sym, _∙_, ap}
-use mathlib.Core.Bool.{Bool, true, false, cond, not, _&&_}
+use mathlib.Core.Bool.{Bool, true, false, _&&_}
 use mathlib.Core.List.{List, [], _∷_, _++_}
 use Prim.Native.Nat.{ℕ, zero, suc, _+_, _-_, _*_, _≤_, _<_}
 use native.Mathlib.Omega.{arith}
 use native.Mathlib.Numerals.{add-one}
-use lib.Dec.{ltb, eqb}
+use lib.Dec.{eqb}
 use lib.ListN.{length, getD, take, drop}
 use lib.Seq.{drop-cons, append-snoc}
 use borrow.Author.Tests.{eq-eqb, ne-eqb}
-use Rattle.store.specs.Slots.{Slot, slotWidth, slotsIn, slots, slotAt, isUsed, front, held, every, neighbours, joined, allZero, isZeroFrom, packed, sound, isWhole, encode, isBefore, ordered}
-use Rattle.store.proofs.Lists.{and-left, and-right, and-both, and-swap, and-assoc, true-not-false, every-append, every-at}
+use Rattle.store.specs.Slots.{Slot, slotWidth, slotsIn, slots, slotAt, isUsed, held, every, neighbours, joined, allZero, isZeroFrom, packed, sound, isWhole, encode, isBefore, ordered}
+use Rattle.store.proofs.Lists.{and-left, and-right, and-both, and-swap, true-not-false, every-append, every-at}
 use Rattle.store.proofs.Words.{length-slots, slots-more}
 use Rattle.store.proofs.Encode.{held-at, held-slots, held-long, held-stop, held-fits, held-encode, zero-from-encode}
 use Rattle.store.proofs.Order.{neighbours-imp, neighbours-at, neighbours-snoc, ordered-is-neighbours}
@@ -55,6 +55,18 @@ unfolding joined
 joined-held pair s zero h e = refl
 joined-held pair s (suc i) h e =
     rw (← held-at s i (omega arith), ← held-at s (suc i) h, ← add-one i) (neighbours-at pair (held s) i e (omega arith))
+
+-- a slot and the one before it, as the code tests them
+pub joined-first : (q : Slot → Slot → Bool) (s : List ℕ) (i : ℕ) → i ≡ 0 → true ≡ joined q i s
+unfolding joined
+joined-first q s i e = rw e
+
+pub joined-next : (q : Slot → Slot → Bool) (s : List ℕ) (i : ℕ) (r : Bool) → (i ≡ 0 → ⊥) → r ≡ q (slotAt (i - 1) s) (slotAt i s) → r ≡ joined q i s
+unfolding joined
+joined-next q s zero r h e = absurd (h refl)
+joined-next q s (suc i) r h e =
+    let f : suc i - 1 ≡ i = omega arith in
+    e ∙ rw f
 
 -- nothing is left after the last slot
 zero-none : (s : List ℕ) (i : ℕ) → i ≡ slotsIn (length s) → isZeroFrom i s ≡ true

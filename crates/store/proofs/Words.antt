@@ -1,16 +1,15 @@
 -- Slots as words and words as slots: laws of `flat`, `slots` and `slotAt`.
 -- Assumes nothing.
 use mathlib.Core.Path.{_≡_, refl, sym, _∙_, ap}
-use mathlib.Core.Bool.{Bool, true, false, cond, not, _&&_}
-use mathlib.Core.List.{List, [], _∷_, _++_, append-assoc, append-nil}
-use Prim.Native.Nat.{ℕ, zero, suc, _+_, _-_, _*_, _/_, _≤_, _<_, min}
+use mathlib.Core.Bool.{true}
+use mathlib.Core.List.{List, [], _∷_, _++_, append-assoc}
+use Prim.Native.Nat.{ℕ, zero, suc, _+_, _-_, _*_, _≤_, _<_}
 use native.Mathlib.Omega.{arith}
-use lib.Dec.{ltb, eqb}
-use lib.ListN.{length, getD, take, drop, set, replicate, length-append, length-take, length-drop, length-replicate, take-append-drop, getD-replicate, List·getD-append, replicate-append-replicate}
-use lib.Seq.{length-take-le, take-at, drop-at, drop-drop, take-add, take-take, take-append-le, drop-append-le, getD-take, getD-drop, set-append-left, set-split, take-nil}
+use lib.ListN.{length, getD, take, drop, length-append, length-drop, take-append-drop}
+use lib.Seq.{length-take-le, take-at, drop-at, drop-drop, take-add, getD-take, getD-drop}
 use borrow.Author.Tests.{eqb-true, eq-eqb}
 use Rattle.store.specs.Slots.{Slot, slotWidth, slotsIn, flat, slots, slotAt, isWhole, every}
-use Rattle.store.proofs.Lists.{and-left, and-right, and-both, every-take, every-drop, every-at, set-append-add}
+use Rattle.store.proofs.Lists.{and-left, and-right, and-both, every-take, every-drop}
 
 -- a slot's words are inside the store
 pub slot-inside : (i w : ℕ) → i < slotsIn w → slotWidth * i + slotWidth ≤ w

@@ -2,7 +2,7 @@
 ghost use mathlib.Core.Path.{_≡_};
 ghost use mathlib.Core.List.{_++_};
 ghost use Prim.Native.Nat.{_+_, _-_, _*_, _≤_, _<_};
-ghost use lib.ListN.{length, take, drop, replicate};
+ghost use lib.ListN.{length, set, take, drop, replicate};
 ghost use Rattle.store.specs.Slots.{slotWidth, slotsIn, opened, closed, written};
 
 // Words of one slice copied into another.
@@ -25,6 +25,15 @@ pub fn write_slot(s: &mut [u32], i: usize, u: &[u32; 32])
     ensures written { λ r. ⌜ now (s .exit) ≡ written i (now (u .entry)) (now (s .entry)) ⌝ }
 {
     copy_words(s, 32 * i, u, 0, 32);
+}
+
+// Word j of slot i replaced.
+pub fn set_word(s: &mut [u32], i: usize, j: usize, w: u32)
+    requires inside { ⌜ i < slotsIn (length (now s)) ⌝ }
+    requires within { ⌜ j < slotWidth ⌝ }
+    ensures set { λ r. ⌜ now (s .exit) ≡ set (now (s .entry)) (slotWidth * i + j) w ⌝ }
+{
+    s[32 * i + j] = w;
 }
 
 // Slots from i on, of n in use, moved up by one. Words are moved from the top down, so that none is overwritten before it is read.

@@ -33,15 +33,15 @@ pub fn used(s: &[u32]) -> usize
     requires packed { ⌜ packed (now s) ≡ true ⌝ }
     ensures used { λ r. ⌜ r ≡ length (held (now (s .entry))) ⌝ }
 {
-    let mut lo = 0;
-    let mut hi = slot_count(s);
-    while lo < hi {
-        let mid = lo + (hi - lo) / 2;
+    let mut low = 0;
+    let mut free = slot_count(s);
+    while low < free {
+        let mid = low + (free - low) / 2;
         if word(s, mid, 0) != 0 {
-            lo = mid + 1;
+            low = mid + 1;
         } else {
-            hi = mid;
+            free = mid;
         }
     }
-    lo
+    low
 }

@@ -42,20 +42,28 @@ pub fn precedes(x: u32, y: u32, z: u32, t: u32, a: u32, b: u32, c: u32, d: u32) 
     t < d
 }
 
+// Whether the words of slot i come before a place.
+fn words_before(s: &[u32], i: usize, a: u32, b: u32, c: u32, d: u32) -> bool
+    requires inside { ⌜ i < slotsIn (length (now s)) ⌝ }
+    ensures order { λ r. ⌜ r ≡ before (take 4 (slotAt i (now (s .entry)))) (a ∷ b ∷ c ∷ d ∷ []) ⌝ }
+{
+    let x = word(s, i, 0);
+    let y = word(s, i, 1);
+    let z = word(s, i, 2);
+    let t = word(s, i, 3);
+    precedes(x, y, z, t, a, b, c, d)
+}
+
 // Whether slot i is in use and stands before a place.
 pub fn stands_before(s: &[u32], i: usize, a: u32, b: u32, c: u32, d: u32) -> bool
     requires inside { ⌜ i < slotsIn (length (now s)) ⌝ }
     ensures order { λ r.
         ⌜ r ≡ (isUsed (slotAt i (now (s .entry))) && before (take 4 (slotAt i (now (s .entry)))) (a ∷ b ∷ c ∷ d ∷ [])) ⌝ }
 {
-    let x = word(s, i, 0);
-    if x == 0 {
+    if word(s, i, 0) == 0 {
         return false;
     }
-    let y = word(s, i, 1);
-    let z = word(s, i, 2);
-    let t = word(s, i, 3);
-    precedes(x, y, z, t, a, b, c, d)
+    words_before(s, i, a, b, c, d)
 }
 
 // Whether slot i stands at a place.
@@ -81,13 +89,9 @@ pub fn in_order(s: &[u32], i: usize, j: usize) -> bool
     requires within { ⌜ j < slotsIn (length (now s)) ⌝ }
     ensures order { λ r. ⌜ r ≡ isBefore (slotAt i (now (s .entry))) (slotAt j (now (s .entry))) ⌝ }
 {
-    let x = word(s, i, 0);
-    let y = word(s, i, 1);
-    let z = word(s, i, 2);
-    let t = word(s, i, 3);
     let a = word(s, j, 0);
     let b = word(s, j, 1);
     let c = word(s, j, 2);
     let d = word(s, j, 3);
-    precedes(x, y, z, t, a, b, c, d)
+    words_before(s, i, a, b, c, d)
 }

@@ -1,3 +1,4 @@
 pub mod Shifted
 pub mod Stored
 pub mod Values
+pub mod Answers

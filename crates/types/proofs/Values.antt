@@ -15,6 +15,7 @@ use Rattle.number.specs.Number.{Halves, numberOf}
 use Rattle.number.specs.Number.{valueOf as numberValue}
 use Rattle.number.specs.Words.{AreWords, digits, valueOfWords}
 use Rattle.number.proofs.Digits.{length-digits, words-digits, digits-value, value-four, words-take, words-drop}
+use Rattle.number.proofs.Stores.{sets-part}
 use Rattle.number.proofs.Halves.{valueOf-numberOf, numberOf-valueOf, value-below}
 use Rattle.types.specs.Value.{valueWidth, valueAt, writeOpKind, isCreation, isDeletion, isExchanged, byteLength, layoutOf, numberWords, hasNumber, numberIn, bytesLen, valueOk}
 use Rattle.types.specs.ValueWithLayout.{valueOf, wordsOf, lengthAnswer, bytesLenOf, asU128Of, Fits}
@@ -60,15 +61,15 @@ number-at s at = rw (drop-take 3 4 (drop at s), drop-drop 3 at s) (take-take 4 4
 
 pub length-valueAt : (s : List ℕ) (at : ℕ) → at + valueWidth ≤ length s → length (valueAt at s) ≡ valueWidth
 unfolding valueAt
-length-valueAt s at h = length-take-le 7 (drop at s) (omega (arith, length-drop at s))
+length-valueAt s at h = length-take-le valueWidth (drop at s) (omega (arith, length-drop at s))
 
 pub words-valueAt : (s : List ℕ) (at : ℕ) → AreWords s → AreWords (valueAt at s)
 unfolding valueAt
-words-valueAt s at g = words-take 7 (drop at s) (words-drop at s g)
+words-valueAt s at g = words-take valueWidth (drop at s) (words-drop at s g)
 
 pub getD-valueAt : (s : List ℕ) (at i : ℕ) → i < valueWidth → getD (valueAt at s) i 0 ≡ getD s (at + i) 0
 unfolding valueAt
-getD-valueAt s at i h = getD-take 7 (drop at s) i 0 h ∙ getD-drop at s i 0
+getD-valueAt s at i h = getD-take valueWidth (drop at s) i 0 h ∙ getD-drop at s i 0
 
 -- Words of a value, and the struct that is read from them.
 pub words-value : (ws : List ℕ) → AreWords ws → length ws ≡ valueWidth → wordsOf (valueOf ws) ≡ ws
@@ -121,6 +122,13 @@ value-write s r at v e =
     let two : at + 2 ≡ suc (suc at) = omega arith in
     let three : at + 3 ≡ suc (suc (suc at)) = omega arith in
     e ∙ rw (one, two, three) refl
+
+-- A value that was written is read back.
+pub value-written : (s : List ℕ) (at : ℕ) (v : ValueWithLayout) → at + valueWidth ≤ length s → valueAt at (sets s at (wordsOf v)) ≡ wordsOf v
+unfolding valueAt
+value-written s at v h =
+    let e : length (wordsOf v) ≡ valueWidth = words-length v in
+    ap (λ (n : ℕ). take n (drop at (sets s at (wordsOf v)))) (sym e) ∙ sets-part (wordsOf v) s at (omega arith)
 
 -- ---- the fields of a head, and what a value answers
 

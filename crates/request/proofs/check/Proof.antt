@@ -13,19 +13,26 @@ fields-ok-requires : tie.Need-fields-ok-requires
 fields-ok-requires c κs = shape-true _ _ (c .before .shape-ok .ensures) (c .if1 .left)
 
 returns-2 : tie.Need-returns-2
-returns-2 c = check-fields _ _ (c .before .before .before .shape-ok .ensures) (c .before .before .if1 .left) _ (c .before .fields-ok .ensures) (c .if2 .taken)
+returns-2 c =
+    check-fields _ _ (c .before .before .before .shape-ok .ensures) (c .before .before .if1 .left) _ (c .before .fields-ok .ensures) (c .if2 .taken)
 
 index-ok-requires : tie.Need-index-ok-requires
 index-ok-requires c κs = shape-whole _ (shape-true _ _ (c .before .before .before .shape-ok .ensures) (c .before .before .if1 .left))
 
 returns-3 : tie.Need-returns-3
-returns-3 c = check-index _ _ (c .before .before .before .before .before .shape-ok .ensures) (c .before .before .before .before .if1 .left) _ (c .before .before .before .fields-ok .ensures) (c .before .before .if2 .left) _ (c .before .index-ok .ensures) (c .if3 .taken)
+returns-3 c =
+    check-index _ _ (c .before .before .before .before .before .shape-ok .ensures) (c .before .before .before .before .if1 .left) _
+    (c .before .before .before .fields-ok .ensures) (c .before .before .if2 .left) _ (c .before .index-ok .ensures) (c .if3 .taken)
 
 fields-of-requires : tie.Need-fields-of-requires
-fields-of-requires c κs = shape-whole _ (shape-true _ _ (c .before .before .before .before .before .shape-ok .ensures) (c .before .before .before .before .if1 .left))
+fields-of-requires c κs =
+    shape-whole _ (shape-true _ _ (c .before .before .before .before .before .shape-ok .ensures) (c .before .before .before .before .if1 .left))
 
 returns-4 : tie.Need-returns-4
-returns-4 c = check-accepted _ _ (c .before .before .before .before .before .before .shape-ok .ensures) (c .before .before .before .before .before .if1 .left) _ (c .before .before .before .before .fields-ok .ensures) (c .before .before .before .if2 .left) _ (c .before .before .index-ok .ensures) (c .before .if3 .left) _ (c .fields-of .ensures)
+returns-4 c =
+    check-accepted _ _ (c .before .before .before .before .before .before .shape-ok .ensures) (c .before .before .before .before .before .if1 .left)
+    _ (c .before .before .before .before .fields-ok .ensures) (c .before .before .before .if2 .left) _ (c .before .before .index-ok .ensures)
+    (c .before .if3 .left) _ (c .fields-of .ensures)
 
 pub check-spec : {M : Type 1} → statement M
 check-spec =

@@ -12,7 +12,10 @@ enum-known-self : tie.Need-enum-known-self
 enum-known-self c = search needs
 
 merge-with-previous-delta-requires : tie.Need-merge-with-previous-delta-requires
-merge-with-previous-delta-requires c κs = (gathered-valid _ _ (c .before .self .given .1) (c .before .before .before .pre .0), validOp-valid _ (c .before .before .before .pre .1))
+merge-with-previous-delta-requires c κs =
+    let newer = gathered-valid _ _ (c .before .self .given .1) (c .before .before .before .pre .0) in
+    let earlier = validOp-valid _ (c .before .before .before .pre .1) in
+    (search needs, search needs)
 
 enum-known-delta : tie.Need-enum-known-delta
 enum-known-delta c = search needs

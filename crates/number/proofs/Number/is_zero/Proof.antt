@@ -1,6 +1,5 @@
 -- `number::Number::is_zero` meets its contract.
 -- Assumes nothing.
-use borrow.Author.Needs.{needs}
 use Rattle.number.proofs.Halves.{zero-low, zero-differs}
 use Rattle.number.proofs.Number.is_zero.Statement.{statement}
 use Rattle.number.proofs.Number.is_zero.Tie as tie

@@ -1,3 +1,4 @@
+use native.Mathlib.Omega.{arith}
 use borrow.Author.Needs.{needs}
 use Rattle.request.proofs.Shapes.{has-head, has-key}
 use Rattle.request.proofs.WordFields.{fields-are}
@@ -8,7 +9,7 @@ kind-of-requires : tie.Need-kind-of-requires
 kind-of-requires c κs = has-head _ (c .before .pre)
 
 shared-slice-read-key : tie.Need-shared-slice-read-key
-shared-slice-read-key c = has-key _ (c .before .before .before .pre)
+shared-slice-read-key c = omega (arith, has-key _ (c .before .before .before .pre))
 
 index-of-requires : tie.Need-index-of-requires
 index-of-requires c κs = search needs
@@ -23,7 +24,9 @@ set-at-requires : tie.Need-set-at-requires
 set-at-requires c κs = search needs
 
 returns : tie.Need-returns
-returns c = fields-are _ _ _ _ _ _ (c .before .before .before .before .before .kind-of .ensures) (c .before .before .before .index-of .ensures) (c .before .before .incarnation-of .ensures) (c .before .tag-of .ensures) (c .set-at .ensures)
+returns c =
+    fields-are _ _ _ _ _ _ (c .before .before .before .before .before .kind-of .ensures) (c .before .before .before .index-of .ensures)
+    (c .before .before .incarnation-of .ensures) (c .before .tag-of .ensures) (c .set-at .ensures)
 
 pub fields-of-spec : {M : Type 1} → statement M
 fields-of-spec =

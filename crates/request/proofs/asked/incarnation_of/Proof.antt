@@ -10,14 +10,17 @@ kind-of-requires c κs = has-head _ (c .before .pre)
 
 shared-slice-read-result : tie.Need-shared-slice-read-result
 unfolding rowOf table row
-shared-slice-read-result c = omega (arith, fixed-named _ _ (c .before .before .kind-of .ensures) 2 (c .before .if1 .taken) (c .before .before .before .before .pre))
+shared-slice-read-result c =
+    omega (arith, fixed-named _ _ (c .before .before .kind-of .ensures) 2 (c .before .if1 .taken) (c .before .before .before .before .pre))
 
 returns : tie.Need-returns
 returns c = incarnation-write _ _ (c .before .before .kind-of .ensures) (c .before .if1 .taken)
 
 shared-slice-read-result-2 : tie.Need-shared-slice-read-result-2
 unfolding rowOf table row
-shared-slice-read-result-2 c = omega (arith, fixed-named _ _ (c .before .before .before .kind-of .ensures) 10 (c .before .if2 .taken) (c .before .before .before .before .before .pre))
+shared-slice-read-result-2 c =
+    omega
+    (arith, fixed-named _ _ (c .before .before .before .kind-of .ensures) 10 (c .before .if2 .taken) (c .before .before .before .before .before .pre))
 
 returns-2 : tie.Need-returns-2
 returns-2 c = incarnation-group _ _ (c .before .before .before .kind-of .ensures) (c .before .before .if1 .left) (c .before .if2 .taken)

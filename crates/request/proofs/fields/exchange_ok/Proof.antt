@@ -10,7 +10,7 @@ shared-slice-read-if1 : tie.Need-shared-slice-read-if1
 shared-slice-read-if1 c = search needs
 
 returns : tie.Need-returns
-returns c = exchange-tag _ (c .if1 .taken)
+returns c = exchange-tag _ (search needs)
 
 side-ok-requires : tie.Need-side-ok-requires
 side-ok-requires c κs = search needs
@@ -25,7 +25,10 @@ is-deletion-requires : tie.Need-is-deletion-requires
 is-deletion-requires c κs = search needs
 
 returns-3 : tie.Need-returns-3
-returns-3 c = exchange-deletion _ (c .before .before .before .before .if1 .left) _ (c .before .before .before .side-ok .ensures) (c .before .before .if2 .left) _ (c .is-deletion .ensures ∙ ap isDeletion (read-words _ _ _ (λ i. c .before .before .before .before .before .before .shared-slice-known .given i .fits) (c .before .before .before .before .before .before .before .pre) (c .before .read .ensures)))
+returns-3 c =
+    exchange-deletion _ (c .before .before .before .before .if1 .left) _ (c .before .before .before .side-ok .ensures) (c .before .before .if2 .left)
+    _
+    (c .is-deletion .ensures ∙ ap isDeletion (read-words _ _ _ (λ i. c .before .before .before .before .before .before .shared-slice-known .given i .fits) (c .before .before .before .before .before .before .before .pre) (c .before .read .ensures)))
 
 pub exchange-ok-spec : {M : Type 1} → statement M
 exchange-ok-spec =

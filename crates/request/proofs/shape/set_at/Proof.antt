@@ -16,13 +16,16 @@ mul-t6 : tie.Need-mul-t6
 mul-t6 c = record { fits = omega (arith, (inside _ _ (c .before .before .row-at .ensures) (c .before .before .before .before .pre)) .few) }
 
 shared-slice-read-t8 : tie.Need-shared-slice-read-t8
-shared-slice-read-t8 c = omega (arith, (inside _ _ (c .before .before .before .row-at .ensures) (c .before .before .before .before .before .pre)) .there)
+shared-slice-read-t8 c =
+    omega (arith, (inside _ _ (c .before .before .before .row-at .ensures) (c .before .before .before .before .before .pre)) .there)
 
 mul-t9 : tie.Need-mul-t9
-mul-t9 c = record { fits = omega (arith, (inside _ _ (c .before .before .before .row-at .ensures) (c .before .before .before .before .before .pre)) .few) }
+mul-t9 c =
+    record { fits = omega (arith, (inside _ _ (c .before .before .before .row-at .ensures) (c .before .before .before .before .before .pre)) .few) }
 
 shared-slice-read-t11 : tie.Need-shared-slice-read-t11
-shared-slice-read-t11 c = (inside _ _ (c .before .before .before .before .row-at .ensures) (c .before .before .before .before .before .before .pre)) .there
+shared-slice-read-t11 c =
+    (inside _ _ (c .before .before .before .before .row-at .ensures) (c .before .before .before .before .before .before .pre)) .there
 
 returns-2 : tie.Need-returns-2
 returns-2 c = set-words _ _ (c .before .before .before .before .row-at .ensures) (c .before .before .if1 .left)

@@ -5,13 +5,13 @@ use Rattle.request.proofs.shape.shape_ok.Statement.{statement}
 use Rattle.request.proofs.shape.shape_ok.Tie as tie
 
 returns : tie.Need-returns
-returns c = shape-empty _ (c .if1 .taken)
+returns c = shape-empty _ (search needs)
 
 row-at-requires : tie.Need-row-at-requires
 row-at-requires c κs = search needs
 
 returns-2 : tie.Need-returns-2
-returns-2 c = shape-short _ _ (c .before .row-at .ensures) (c .if2 .taken)
+returns-2 c = shape-short _ _ (c .before .row-at .ensures) (search needs)
 
 count-of-requires : tie.Need-count-of-requires
 count-of-requires c κs = search needs
@@ -20,7 +20,8 @@ add-if3 : tie.Need-add-if3
 add-if3 c = record { fits = omega (arith, count-lt _ _ (c .count-of .ensures)) }
 
 returns-3 : tie.Need-returns-3
-returns-3 c = shape-count _ _ (c .before .before .before .row-at .ensures) (c .before .before .if2 .left) _ (c .before .count-of .ensures) (c .if3 .taken)
+returns-3 c =
+    shape-count _ _ (c .before .before .before .row-at .ensures) (c .before .before .if2 .left) _ (c .before .count-of .ensures) (c .if3 .taken)
 
 set-at-requires : tie.Need-set-at-requires
 set-at-requires c κs = whole _ _ (c .before .before .before .row-at .ensures) (c .before .before .if2 .left)
@@ -29,13 +30,19 @@ len-requires : tie.Need-len-requires
 len-requires c κs = search needs
 
 mul-result : tie.Need-mul-result
-mul-result c = record { fits = omega (arith, values-le _ _ (c .before .before .before .before .before .row-at .ensures) (c .before .before .before .before .if2 .left) _ (c .before .before .before .count-of .ensures) _ (c .before .set-at .ensures) _ (c .len .ensures)) }
+mul-result c =
+    record
+    { fits = omega (arith, values-le _ _ (c .before .before .before .before .before .row-at .ensures) (c .before .before .before .before .if2 .left) _ (c .before .before .before .count-of .ensures) _ (c .before .set-at .ensures) _ (c .len .ensures)) }
 
 add-result : tie.Need-add-result
-add-result c = record { fits = omega (arith, (inside _ _ (c .before .before .before .before .before .row-at .ensures) (whole _ _ (c .before .before .before .before .before .row-at .ensures) (c .before .before .before .before .if2 .left))) .few, values-le _ _ (c .before .before .before .before .before .row-at .ensures) (c .before .before .before .before .if2 .left) _ (c .before .before .before .count-of .ensures) _ (c .before .set-at .ensures) _ (c .len .ensures)) }
+add-result c =
+    record
+    { fits = omega (arith, (inside _ _ (c .before .before .before .before .before .row-at .ensures) (whole _ _ (c .before .before .before .before .before .row-at .ensures) (c .before .before .before .before .if2 .left))) .few, values-le _ _ (c .before .before .before .before .before .row-at .ensures) (c .before .before .before .before .if2 .left) _ (c .before .before .before .count-of .ensures) _ (c .before .set-at .ensures) _ (c .len .ensures)) }
 
 returns-4 : tie.Need-returns-4
-returns-4 c = shape-set _ _ (c .before .before .before .before .before .row-at .ensures) (c .before .before .before .before .if2 .left) _ (c .before .before .before .count-of .ensures) _ (c .before .set-at .ensures) _ (c .len .ensures) (c .before .before .if3 .left)
+returns-4 c =
+    shape-set _ _ (c .before .before .before .before .before .row-at .ensures) (c .before .before .before .before .if2 .left) _
+    (c .before .before .before .count-of .ensures) _ (c .before .set-at .ensures) _ (c .len .ensures) (c .before .before .if3 .left)
 
 pub shape-ok-spec : {M : Type 1} → statement M
 shape-ok-spec =

@@ -7,11 +7,11 @@ use Rattle.request.proofs.TableRule.{code-row}
 use Rattle.request.proofs.table.row_of.Statement.{statement}
 use Rattle.request.proofs.table.row_of.Tie as tie
 
-mul-result : tie.Need-mul-result
-mul-result c = search needs
+mul-cells : tie.Need-mul-cells
+mul-cells c = search needs
 
-array-copy-out-result : tie.Need-array-copy-out-result
-array-copy-out-result c = search needs
+array-copy-out-cells : tie.Need-array-copy-out-cells
+array-copy-out-cells c = search needs
 
 -- The rule over the whole table is one equation, which antt computes.
 returns : tie.Need-returns
@@ -19,4 +19,4 @@ unfolding table row at placeOf lastOf lastIndex
 returns c = code-row _ refl _ _ (c .before .pre)
 
 pub row-of-spec : {M : Type 1} → statement M
-row-of-spec = tie.close (tie.spec mul-result array-copy-out-result returns)
+row-of-spec = tie.close (tie.spec mul-cells array-copy-out-cells returns)

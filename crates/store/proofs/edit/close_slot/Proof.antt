@@ -1,6 +1,5 @@
 -- `store::edit::close_slot` meets its contract.
 -- Assumes nothing.
-use native.Mathlib.Omega.{arith}
 use borrow.Author.Needs.{needs}
 use Rattle.store.specs.Slots.{slotsIn}
 use Rattle.store.proofs.Moves.{closed-steps}

@@ -2,11 +2,9 @@
 -- Assumes nothing.
 use borrow.Author.Needs.{needs}
 use native.Mathlib.Omega.{arith}
-use mathlib.Core.Path.{_≡_, refl, sym, _∙_, ap}
-use mathlib.Core.Bool.{Bool, true, false, _&&_}
-use mathlib.Core.List.{[], _∷_}
-use Prim.Native.Nat.{ℕ, _+_, _-_, _*_, _≤_, _<_}
-use lib.ListN.{length, length-set, drop, take, getD, replicate}
+use mathlib.Core.Path.{_≡_, refl}
+use Prim.Native.Nat.{_+_, _-_, _≤_}
+use lib.ListN.{length, length-set, drop}
 use Rattle.store.proofs.Moves.{copied, copied-none, copied-all, down-turn}
 use Rattle.store.proofs.edit.move_down.Statement.{statement}
 use Rattle.store.proofs.edit.move_down.Tie as tie

@@ -1,6 +1,5 @@
 -- `store::scan::zero_from` meets its contract.
 -- Assumes nothing.
-use native.Mathlib.Omega.{arith}
 use borrow.Author.Needs.{needs}
 use denote.Ref.{now}
 use Rattle.store.specs.Slots.{slotsIn}

@@ -1,12 +1,9 @@
--- `store::search::used` meets its contract: the count stays between lo and hi.
+-- `store::search::used` meets its contract: the count stays between low and free.
 -- Assumes nothing.
 use borrow.Author.Needs.{needs}
 use native.Mathlib.Omega.{arith}
-use mathlib.Core.Path.{_≡_, refl, sym, _∙_, ap}
-use mathlib.Core.Bool.{Bool, true, false, _&&_}
-use mathlib.Core.List.{[], _∷_}
-use Prim.Native.Nat.{ℕ, _+_, _-_, _*_, _≤_, _<_}
-use lib.ListN.{length, length-set, drop, take, getD, replicate}
+use Prim.Native.Nat.{_-_, _≤_}
+use lib.ListN.{length}
 use denote.Ref.{now}
 use Rattle.store.specs.Slots.{slotsIn, held}
 use Rattle.store.proofs.Encode.{held-fits}
@@ -15,10 +12,10 @@ use Rattle.store.proofs.search.used.Statement.{statement}
 use Rattle.store.proofs.search.used.Tie as tie
 
 abbrev Inv-loop : tie.InvT-loop
-Inv-loop s lo₀ hi₀ lo hi = (lo ≤ length (held s)) × (length (held s) ≤ hi) × (hi ≤ slotsIn (length s))
+Inv-loop s low₀ free₀ low free = (low ≤ length (held s)) × (length (held s) ≤ free) × (free ≤ slotsIn (length s))
 
 abbrev μ-loop : tie.MeasureT-loop
-μ-loop s lo₀ hi₀ lo hi = hi - lo
+μ-loop s low₀ free₀ low free = free - low
 
 slot-count-requires : tie.Need-slot-count-requires Inv-loop μ-loop
 slot-count-requires c κs = search needs
@@ -35,8 +32,8 @@ add-mid c = search needs
 word-requires : tie.Need-word-requires Inv-loop μ-loop
 word-requires c κs = search needs
 
-add-lo : tie.Need-add-lo Inv-loop μ-loop
-add-lo c = search needs
+add-low : tie.Need-add-low Inv-loop μ-loop
+add-low c = search needs
 
 loop-less : tie.Need-loop-less Inv-loop μ-loop
 loop-less c = search needs
@@ -64,7 +61,7 @@ used-spec =
     sub-mid
     add-mid
     word-requires
-    add-lo
+    add-low
     loop-less
     loop-again
     loop-less-2

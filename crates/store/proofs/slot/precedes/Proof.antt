@@ -1,6 +1,5 @@
 -- `store::slot::precedes` meets its contract: the first words that differ decide.
 -- Assumes nothing.
-use borrow.Author.Needs.{needs}
 use Rattle.store.proofs.Compare.{before-differs, before-next, before-last}
 use Rattle.store.proofs.slot.precedes.Statement.{statement}
 use Rattle.store.proofs.slot.precedes.Tie as tie

@@ -13,7 +13,9 @@ ok-requires : tie.Need-ok-requires
 ok-requires c κs = search needs
 
 returns : tie.Need-returns
-returns c = c .ok .ensures ∙ ap (λ v. valueOk (wordsOf v)) (c .before .read .ensures) ∙ ap valueOk (words-read _ _ (λ i. c .before .before .shared-slice-known .given i .fits) (c .before .before .before .pre))
+returns c =
+    c .ok .ensures ∙ ap (λ v. valueOk (wordsOf v)) (c .before .read .ensures) ∙ ap valueOk
+    (words-read _ _ (λ i. c .before .before .shared-slice-known .given i .fits) (c .before .before .before .pre))
 
 pub value-ok-spec : {M : Type 1} → statement M
 value-ok-spec = tie.close (tie.spec read-requires ok-requires returns)

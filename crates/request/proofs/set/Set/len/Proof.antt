@@ -5,10 +5,14 @@ use Rattle.request.proofs.set.Set.len.Statement.{statement}
 use Rattle.request.proofs.set.Set.len.Tie as tie
 
 add-result : tie.Need-add-result
-add-result c = record { fits = omega (arith, tags-at-most (c .before .before .args .self .low) (c .before .before .args .self .high) (search needs) (search needs)) }
+add-result c =
+    record
+    { fits = omega (arith, tags-at-most (c .before .before .args .self .low) (c .before .before .args .self .high) (search needs) (search needs)) }
 
 cast-result : tie.Need-cast-result
-cast-result c = record { fits = omega (arith, tags-at-most (c .before .before .args .self .low) (c .before .before .args .self .high) (search needs) (search needs)) }
+cast-result c =
+    record
+    { fits = omega (arith, tags-at-most (c .before .before .args .self .low) (c .before .before .args .self .high) (search needs) (search needs)) }
 
 returns : tie.Need-returns
 returns c = tags-count _ _ (search needs) (search needs)

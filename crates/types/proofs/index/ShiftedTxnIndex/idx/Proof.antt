@@ -7,7 +7,7 @@ sub-t4 : tie.Need-sub-t4
 sub-t4 c = search needs
 
 returns : tie.Need-returns
-returns c = index-pos _ (c .if1 .taken)
+returns c = index-pos _ (search needs)
 
 returns-2 : tie.Need-returns-2
 returns-2 c = index-zero _ (c .if1 .left)

@@ -14,10 +14,14 @@ has-number-requires : tie.Need-has-number-requires
 has-number-requires c κs = search needs
 
 returns-2 : tie.Need-returns-2
-returns-2 c = u128-value _ (sym (c .before .before .before .is-deletion .ensures) ∙ c .before .before .if1 .left) (sym (c .before .has-number .ensures) ∙ c .if2 .taken) _ (number-field _ (search needs))
+returns-2 c =
+    u128-value _ (sym (c .before .before .before .is-deletion .ensures) ∙ c .before .before .if1 .left)
+    (sym (c .before .has-number .ensures) ∙ c .if2 .taken) _ (number-field _ (search needs))
 
 returns-3 : tie.Need-returns-3
-returns-3 c = u128-none _ (sym (c .before .before .before .is-deletion .ensures) ∙ c .before .before .if1 .left) (sym (c .before .has-number .ensures) ∙ c .if2 .left)
+returns-3 c =
+    u128-none _ (sym (c .before .before .before .is-deletion .ensures) ∙ c .before .before .if1 .left)
+    (sym (c .before .has-number .ensures) ∙ c .if2 .left)
 
 pub as-u128-spec : {M : Type 1} → statement M
 as-u128-spec =

@@ -14,7 +14,8 @@ is-zero-requires : tie.Need-is-zero-requires
 is-zero-requires c κs = search needs
 
 returns-2 : tie.Need-returns-2
-returns-2 c = number-zero _ (sym (c .before .before .has-number .ensures) ∙ c .before .if1 .left) _ _ (c .is-zero .ensures) (words-number _ (search needs))
+returns-2 c =
+    number-zero _ (sym (c .before .before .has-number .ensures) ∙ c .before .if1 .left) _ _ (c .is-zero .ensures) (words-number _ (search needs))
 
 pub number-ok-spec : {M : Type 1} → statement M
 number-ok-spec = tie.close (tie.spec has-number-requires returns is-zero-requires returns-2)

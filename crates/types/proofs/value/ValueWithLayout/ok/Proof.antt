@@ -7,31 +7,43 @@ kind-bits-requires : tie.Need-kind-bits-requires
 kind-bits-requires c κs = search needs
 
 returns : tie.Need-returns
-returns c = ok-kind _ _ (c .before .kind-bits .ensures) (c .if1 .taken)
+returns c = ok-kind _ _ (c .before .kind-bits .ensures) (search needs)
 
 byte-length-requires : tie.Need-byte-length-requires
 byte-length-requires c κs = search needs
 
 returns-2 : tie.Need-returns-2
-returns-2 c = ok-length _ _ (c .before .before .before .kind-bits .ensures) (c .before .before .if1 .left) _ (c .before .byte-length .ensures) (c .if2 .taken)
+returns-2 c =
+    ok-length _ _ (c .before .before .before .kind-bits .ensures) (c .before .before .if1 .left) _ (c .before .byte-length .ensures) (search needs)
 
 layout-ok-requires : tie.Need-layout-ok-requires
 layout-ok-requires c κs = search needs
 
 returns-3 : tie.Need-returns-3
-returns-3 c = ok-layout _ _ (c .before .before .before .before .before .kind-bits .ensures) (c .before .before .before .before .if1 .left) _ (c .before .before .before .byte-length .ensures) (c .before .before .if2 .left) _ (c .before .layout-ok .ensures) (c .if3 .taken)
+returns-3 c =
+    ok-layout _ _ (c .before .before .before .before .before .kind-bits .ensures) (c .before .before .before .before .if1 .left) _
+    (c .before .before .before .byte-length .ensures) (c .before .before .if2 .left) _ (c .before .layout-ok .ensures) (c .if3 .taken)
 
 deletion-ok-requires : tie.Need-deletion-ok-requires
 deletion-ok-requires c κs = search needs
 
 returns-4 : tie.Need-returns-4
-returns-4 c = ok-deletion _ _ (c .before .before .before .before .before .before .before .kind-bits .ensures) (c .before .before .before .before .before .before .if1 .left) _ (c .before .before .before .before .before .byte-length .ensures) (c .before .before .before .before .if2 .left) _ (c .before .before .before .layout-ok .ensures) (c .before .before .if3 .left) _ (c .before .deletion-ok .ensures) (c .if4 .taken)
+returns-4 c =
+    ok-deletion _ _ (c .before .before .before .before .before .before .before .kind-bits .ensures)
+    (c .before .before .before .before .before .before .if1 .left) _ (c .before .before .before .before .before .byte-length .ensures)
+    (c .before .before .before .before .if2 .left) _ (c .before .before .before .layout-ok .ensures) (c .before .before .if3 .left) _
+    (c .before .deletion-ok .ensures) (c .if4 .taken)
 
 number-ok-requires : tie.Need-number-ok-requires
 number-ok-requires c κs = search needs
 
 returns-5 : tie.Need-returns-5
-returns-5 c = ok-number _ _ (c .before .before .before .before .before .before .before .before .kind-bits .ensures) (c .before .before .before .before .before .before .before .if1 .left) _ (c .before .before .before .before .before .before .byte-length .ensures) (c .before .before .before .before .before .if2 .left) _ (c .before .before .before .before .layout-ok .ensures) (c .before .before .before .if3 .left) _ (c .before .before .deletion-ok .ensures) (c .before .if4 .left) _ (c .number-ok .ensures)
+returns-5 c =
+    ok-number _ _ (c .before .before .before .before .before .before .before .before .kind-bits .ensures)
+    (c .before .before .before .before .before .before .before .if1 .left) _
+    (c .before .before .before .before .before .before .byte-length .ensures) (c .before .before .before .before .before .if2 .left) _
+    (c .before .before .before .before .layout-ok .ensures) (c .before .before .before .if3 .left) _ (c .before .before .deletion-ok .ensures)
+    (c .before .if4 .left) _ (c .number-ok .ensures)
 
 pub ok-spec : {M : Type 1} → statement M
 ok-spec =

@@ -1,0 +1,141 @@
+-- A valid store and the entries that it holds are one; positions in its words are positions among the entries.
+-- Assumes nothing.
+use mathlib.Core.Path.{_≡_, refl, sym, _∙_, ap, ap₂}
+use mathlib.Core.Bool.{Bool, true, false, cond, not, _&&_, _||_}
+use mathlib.Core.List.{List, [], _∷_, _++_, map}
+use mathlib.Core.Option.{Option, none, some}
+use Prim.Native.Nat.{ℕ, zero, suc, _+_, _-_, _*_, _≤_, _<_}
+use native.Mathlib.Omega.{arith}
+use lib.Dec.{leb, ltb, eqb}
+use lib.ListN.{length, getD, set, take, drop, length-map, List·getD-map}
+use borrow.Author.Tests.{eqb-true, eq-eqb}
+use Rattle.store.specs.Slots
+use Rattle.store.specs.Slots.{Slot, slotWidth, slotsIn, encode, held, isWhole, isUsed, before, isBefore, ordered, packed, placeOf}
+use Rattle.store.proofs.Encode.{held-encode, packed-encode, length-encode, encode-encode, held-fits}
+use Rattle.model.specs.Rows.{Row, keep, every, rising, isBelow, isAt, isAbove, find, put, erase}
+use Rattle.model.specs.Data.{Entry}
+use Rattle.model.specs.Fine.{fineEntry, fineEntries}
+use Rattle.model.proofs.Lists.{and-left, and-right, and-both, keep-none, every-imp}
+use Rattle.model.proofs.Rows.{Side, lower, here, upper, side, above-not-below, at-above, above-above}
+use Rattle.model.proofs.Places.{rank}
+use Rattle.versioned_data.specs.Layout.{slotOf, entryOf, entriesIn, holding, sameWords, dataValid}
+use Rattle.versioned_data.proofs.Entries.{slot-below, slots-whole, slots-used, entries-back, slots-ordered}
+
+pub same-words : (xs ys : List ℕ) → sameWords xs ys ≡ true → xs ≡ ys
+unfolding sameWords
+same-words [] [] h = refl
+same-words [] (y ∷ ys) h = absurd (let z : _≡_ {A = ℕ} 0 1 = cc in omega arith)
+same-words (x ∷ xs) [] h = absurd (let z : _≡_ {A = ℕ} 0 1 = cc in omega arith)
+same-words (x ∷ xs) (y ∷ ys) h =
+    ap₂ (λ (w : ℕ) (l : List ℕ). w ∷ l) (eqb-true x y (and-left (eqb x y) (sameWords xs ys) h))
+    (same-words xs ys (and-right (eqb x y) (sameWords xs ys) h))
+
+pub words-same : (xs : List ℕ) → sameWords xs xs ≡ true
+unfolding sameWords
+words-same [] = refl
+words-same (x ∷ xs) = and-both (eqb x x) (sameWords xs xs) (eq-eqb x x refl) (words-same xs)
+
+pub fine-rising : (rs : List (Row Entry)) → fineEntries rs ≡ true → rising rs ≡ true
+unfolding fineEntries
+fine-rising rs h = and-left (rising rs) (every fineEntry rs) h
+
+pub fine-every : (rs : List (Row Entry)) → fineEntries rs ≡ true → every fineEntry rs ≡ true
+unfolding fineEntries
+fine-every rs h = and-right (rising rs) (every fineEntry rs) h
+
+-- A store that is made to hold fine entries holds them, and is valid.
+module _ (s : List ℕ) (rs : List (Row Entry)) (f : fineEntries rs ≡ true) (h : length rs ≤ slotsIn (length s)) where
+  few : length (map slotOf rs) ≤ slotsIn (length s)
+  few = rw (length-map rs slotOf) h
+
+  whole : Slots.every isWhole (map slotOf rs) ≡ true
+  whole = slots-whole rs (fine-every rs f)
+
+  pub held-holding : held (holding s rs) ≡ map slotOf rs
+  unfolding holding
+  held-holding = held-encode s (map slotOf rs) whole few (slots-used rs)
+
+  pub entries-holding : entriesIn (holding s rs) ≡ rs
+  unfolding entriesIn
+  entries-holding = ap (map entryOf) held-holding ∙ entries-back rs (fine-every rs f)
+
+  pub length-holding : length (holding s rs) ≡ length s
+  unfolding holding
+  length-holding = length-encode s (map slotOf rs) whole few
+
+  pub holding-again : (qs : List (Row Entry)) → holding (holding s rs) qs ≡ holding s qs
+  unfolding holding
+  holding-again qs = encode-encode s (map slotOf rs) whole few (map slotOf qs)
+
+  pub packed-holding : packed (holding s rs) ≡ true
+  unfolding holding
+  packed-holding = packed-encode s (map slotOf rs) whole few (slots-used rs) ∙ slots-ordered rs ∙ fine-rising rs f
+
+  pub valid-holding : dataValid (holding s rs) ≡ true
+  unfolding dataValid
+  valid-holding = rw (entries-holding, holding-again rs, words-same (holding s rs)) f
+
+-- A valid store is the one that holds its entries.
+module _ (s : List ℕ) (v : dataValid s ≡ true) where
+  pub holding-entries : holding s (entriesIn s) ≡ s
+  unfolding dataValid
+  holding-entries = same-words (holding s (entriesIn s)) s (and-left (sameWords (holding s (entriesIn s)) s) (fineEntries (entriesIn s)) v)
+
+  pub fine-valid : fineEntries (entriesIn s) ≡ true
+  unfolding dataValid
+  fine-valid = and-right (sameWords (holding s (entriesIn s)) s) (fineEntries (entriesIn s)) v
+
+  pub rising-valid : rising (entriesIn s) ≡ true
+  rising-valid = fine-rising (entriesIn s) fine-valid
+
+  pub every-valid : every fineEntry (entriesIn s) ≡ true
+  every-valid = fine-every (entriesIn s) fine-valid
+
+  pub few-valid : length (entriesIn s) ≤ slotsIn (length s)
+  unfolding entriesIn
+  few-valid = rw (length-map (held s) entryOf) (held-fits s)
+
+  pub packed-valid : packed s ≡ true
+  packed-valid = ap packed (sym holding-entries) ∙ packed-holding s (entriesIn s) fine-valid few-valid
+
+  pub held-valid : held s ≡ map slotOf (entriesIn s)
+  held-valid = ap held (sym holding-entries) ∙ held-holding s (entriesIn s) fine-valid few-valid
+
+-- Positions.
+front-map : {A B : Type 0} (q : B → Bool) (g : A → B) (xs : List A) → Slots.front q (map g xs) ≡ map g (Slots.front (λ x. q (g x)) xs)
+unfolding Slots.front
+front-map q g [] = refl
+front-map q g (x ∷ xs) = go (q (g x)) refl (front-map q g xs)
+  where
+    go : (b : Bool) → q (g x) ≡ b → Slots.front q (map g xs) ≡ map g (Slots.front (λ x. q (g x)) xs) →
+        Slots.front q (map g (x ∷ xs)) ≡ map g (Slots.front (λ x. q (g x)) (x ∷ xs))
+    go true e ih = rw (e, ih)
+    go false e ih = rw e
+
+front-same : {A : Type 0} (p q : A → Bool) → ((x : A) → p x ≡ q x) → (xs : List A) → Slots.front p xs ≡ Slots.front q xs
+unfolding Slots.front
+front-same p q h [] = refl
+front-same p q h (x ∷ xs) = rw (h x, front-same p q h xs)
+
+front-below : (k p : ℕ) (rs : List (Row Entry)) → rising rs ≡ true → Slots.front (isBelow k p) rs ≡ keep (isBelow k p) rs
+unfolding Slots.front rising keep
+front-below k p [] g = refl
+front-below k p (r ∷ rs) g = go (side k p r) (front-below k p rs (and-right (every (isAbove (r .key) (r .place)) rs) (rising rs) g))
+  where
+    none-below : ((q : Row Entry) → isAbove (r .key) (r .place) q ≡ true → isAbove k p q ≡ true) → keep (isBelow k p) rs ≡ []
+    none-below f =
+        keep-none (isBelow k p) (isAbove k p) (λ q. above-not-below k p q) rs
+        (every-imp (isAbove (r .key) (r .place)) (isAbove k p) f rs (and-left (every (isAbove (r .key) (r .place)) rs) (rising rs) g))
+
+    go : Side k p r → Slots.front (isBelow k p) rs ≡ keep (isBelow k p) rs → Slots.front (isBelow k p) (r ∷ rs) ≡ keep (isBelow k p) (r ∷ rs)
+    go (lower b a u) ih = rw (b, ih)
+    go (here b a u) ih = rw (b, none-below (λ q. at-above k p r q a))
+    go (upper b a u) ih = rw (b, none-below (λ q. above-above k p r q u))
+
+-- where a slot of a key and shifted index stands, or would be inserted
+pub place-rank : (k p : ℕ) (rs : List (Row Entry)) → rising rs ≡ true → placeOf (1 ∷ k ∷ p ∷ 0 ∷ []) (map slotOf rs) ≡ rank k p rs
+unfolding placeOf rank
+place-rank k p rs g =
+    ap length (front-map (λ u. before (take 4 u) (1 ∷ k ∷ p ∷ 0 ∷ [])) slotOf rs)
+    ∙ length-map (Slots.front (λ x. before (take 4 (slotOf x)) (1 ∷ k ∷ p ∷ 0 ∷ [])) rs) slotOf
+    ∙ ap length (front-same (λ x. before (take 4 (slotOf x)) (1 ∷ k ∷ p ∷ 0 ∷ [])) (isBelow k p) (slot-below k p) rs ∙ front-below k p rs g)

@@ -1,0 +1,12 @@
+pub mod Entries
+pub mod Holding
+pub mod Edits
+pub mod Finding
+pub mod Rulings
+pub mod Contents
+pub mod Bases
+pub mod Putting
+pub mod Operations
+pub mod Positions
+pub mod Scan
+pub mod SlotTest

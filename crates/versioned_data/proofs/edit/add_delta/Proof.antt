@@ -1,0 +1,38 @@
+use Rattle.versioned_data.proofs.Operations.{shifted-word, found-among, delta-added}
+use Rattle.versioned_data.proofs.Holding.{packed-valid}
+use mathlib.Core.Path.{refl}
+use borrow.Author.Needs.{needs}
+use Rattle.versioned_data.proofs.edit.add_delta.Statement.{statement}
+use Rattle.versioned_data.proofs.edit.add_delta.Tie as tie
+
+new-requires : tie.Need-new-requires
+new-requires c κs = search needs
+
+find-entry-requires : tie.Need-find-entry-requires
+find-entry-requires c κs = search needs
+
+new-delta-from-requires : tie.Need-new-delta-from-requires
+new-delta-from-requires c κs = search needs
+
+put-entry-requires : tie.Need-put-entry-requires
+put-entry-requires c κs =
+    (packed-valid _ (c .before .before .before .before .before .before .before .before .pre .0), found-among _ (c .before .before .before .before .before .before .before .before .pre .0) _ _ _ refl _ (c .before .before .before .find-entry .ensures))
+
+same-length : tie.Need-same-length
+same-length c = search needs
+
+returns : tie.Need-returns
+returns c =
+    delta-added _ (c .before .before .before .before .before .before .before .before .before .before .before .pre .0) _ _ _ (shifted-word _ _ (c .before .before .before .before .before .before .before .before .new .ensures)) _ (c .before .before .before .before .before .before .find-entry .ensures) _ _ _ _
+    (c .before .before .before .before .before .new-delta-from .ensures) (c .before .before .put-entry .ensures)
+
+pub add-delta-spec : {M : Type 1} → statement M
+add-delta-spec =
+    tie.close
+    (tie.spec
+    new-requires
+    find-entry-requires
+    new-delta-from-requires
+    put-entry-requires
+    same-length
+    returns)

@@ -1,0 +1,56 @@
+use Rattle.versioned_data.proofs.Operations.{shifted-word, remove-refused, remove-room, remove-done}
+use Rattle.versioned_data.proofs.Holding.{packed-valid}
+use mathlib.Core.Path.{refl}
+use borrow.Author.Needs.{needs}
+use Rattle.versioned_data.proofs.edit.remove.Statement.{statement}
+use Rattle.versioned_data.proofs.edit.remove.Tie as tie
+
+new-requires : tie.Need-new-requires
+new-requires c κs = search needs
+
+find-entry-requires : tie.Need-find-entry-requires
+find-entry-requires c κs = search needs
+
+enum-told : tie.Need-enum-told
+enum-told c = search needs
+
+same-length : tie.Need-same-length
+same-length c = search needs
+
+returns : tie.Need-returns
+returns c =
+    remove-refused _ (c .before .before .before .before .before .before .pre .0) _ _ _ (shifted-word _ _ (c .before .before .before .new .ensures)) _ (c .before .before .find-entry .ensures) _ (c .enum-told .given .1)
+
+enum-known-found : tie.Need-enum-known-found
+enum-known-found c = search needs
+
+used-requires : tie.Need-used-requires
+used-requires c κs =
+    packed-valid _ (c .before .before .before .before .before .before .before .before .pre .0)
+
+close-slot-requires : tie.Need-close-slot-requires
+close-slot-requires c κs =
+    remove-room _ (c .before .before .before .before .before .before .before .before .before .before .pre .0) _ _ _ refl _ (c .before .before .before .before .before .before .find-entry .ensures) _ (c .before .before .before .before .found .given .1) _ (c .before .used .ensures)
+
+same-length-2 : tie.Need-same-length-2
+same-length-2 c = search needs
+
+returns-2 : tie.Need-returns-2
+returns-2 c =
+    remove-done _ (c .before .before .before .before .before .before .before .before .before .before .before .before .before .pre .0) _ _ _ (shifted-word _ _ (c .before .before .before .before .before .before .before .before .before .before .new .ensures)) _ (c .before .before .before .before .before .before .before .before .before .find-entry .ensures) _ (c .before .before .before .before .before .before .before .found .given .1) _
+    (c .before .before .before .before .used .ensures) _ (c .before .before .close-slot .ensures)
+
+pub remove-spec : {M : Type 1} → statement M
+remove-spec =
+    tie.close
+    (tie.spec
+    new-requires
+    find-entry-requires
+    enum-told
+    same-length
+    returns
+    enum-known-found
+    used-requires
+    close-slot-requires
+    same-length-2
+    returns-2)

@@ -1,0 +1,4 @@
+pub mod Layout
+pub mod Found
+pub mod Edited
+pub mod Base

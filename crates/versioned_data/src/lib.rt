@@ -1,0 +1,5 @@
+// versioned_data.rs over slots in lent words: kinds 1 to 7.
+pub mod base;
+pub mod edit;
+pub mod find;
+mod layout;
