@@ -5,9 +5,9 @@ use Prim.Native.Nat.{ℕ, _+_}
 use lib.ListN.{getD, drop}
 use Rattle.delta.specs.Delta.{deltaAt}
 use Rattle.types.specs.Value.{valueAt}
-use Rattle.request.specs.Table.{Row, at, row, table, rowOf}
+use Rattle.request.specs.Table.{at, row, table, rowOf}
 use Rattle.request.specs.Set.{tagsOf, membersOf}
-use Rattle.request.specs.Request.{rowAt, tags, members, Request, lastCommitted, base, write, addDelta, estimate, remove, fetch, materialize, groupBase, exchange, groupWrite, groupEstimate, groupRemove, groupFetch, groupSize, finalize, requestAs, requestOf}
+use Rattle.request.specs.Request.{rowAt, members, Request, lastCommitted, base, write, addDelta, estimate, remove, fetch, materialize, groupBase, exchange, groupWrite, groupEstimate, groupRemove, groupFetch, groupSize, finalize, requestAs, requestOf}
 use Rattle.request.specs.Fields.{kindAt, indexField, indexAt, setAt, incarnationAs, tagAs, fieldsAt}
 use Rattle.request.specs.declared.asked.Fields.{Fields}
 use Rattle.request.proofs.KindNumbers.{row-named}

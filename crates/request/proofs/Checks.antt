@@ -1,18 +1,16 @@
 -- What the shape of a request says of its length, and what the whole check says.
 use mathlib.Core.Path.{_≡_, refl, sym, ap, _∙_}
 use mathlib.Core.Bool.{Bool, true, false, not, cond, _&&_}
-use mathlib.Core.List.{List, [], _∷_}
-use Prim.Native.Nat.{ℕ, _+_, _*_, _≤_, _<_}
+use mathlib.Core.List.{List}
+use Prim.Native.Nat.{ℕ, _+_, _*_, _<_}
 use native.Mathlib.Omega.{arith}
 use lib.Dec.{eqb, ltb}
-use lib.ListN.{length, getD}
+use lib.ListN.{length}
 use borrow.Author.Tests.{ltb-true, eqb-true, not-true, not-false}
-use Rattle.request.specs.Table.{rowOf}
 use Rattle.request.specs.Request.{rowAt, countOf, tags, shapeOk, fieldsOk, indexOk, refusalOf}
-use Rattle.request.specs.Fields.{kindAt, fieldsAt}
+use Rattle.request.specs.Fields.{fieldsAt}
 use Rattle.request.specs.Checked.{checkOf}
 use Rattle.request.specs.declared.asked.Fields.{Fields}
-use Rattle.request.specs.declared.Checked.{Checked}
 use Rattle.request.specs.declared.Checked.the-variants.{Refused, Accepted}
 use Rattle.request.proofs.TableRule.{and-left, and-right}
 

@@ -1,17 +1,15 @@
 -- The rules of a request's fields: refusal 3, from the tests that the code makes.
 use mathlib.Core.Path.{_≡_, refl, sym, ap, _∙_}
 use mathlib.Core.Bool.{Bool, true, false, not, _&&_}
-use mathlib.Core.List.{List, [], _∷_}
-use Prim.Native.Nat.{ℕ, zero, suc, _+_, _-_, _*_, _≤_, _<_}
+use mathlib.Core.List.{List}
+use Prim.Native.Nat.{ℕ, zero, suc, _+_, _-_, _≤_, _<_}
 use native.Mathlib.Omega.{arith}
-use lib.Dec.{leb}
-use lib.ListN.{length, getD, take, drop}
+use lib.ListN.{getD, drop}
 use lib.Seq.{drop-drop}
 use borrow.Author.Tests.{le-leb, lt-leb, not-true, not-false}
 use Rattle.types.specs.Value.{valueWidth, valueAt, valueOk, isExchanged, isDeletion}
 use Rattle.request.specs.Table.{Exchange}
-use Rattle.request.specs.Set.{Member, membersOf}
-use Rattle.request.specs.Request.{exchangedOk, rawOk, tagOk, all, fieldsOk}
+use Rattle.request.specs.Request.{exchangedOk, rawOk, tagOk, fieldsOk}
 use Rattle.request.specs.Fields.{sideOk, valuesOk}
 
 -- ---- one value: `w` are the words of the struct that was read, `v` those of the request

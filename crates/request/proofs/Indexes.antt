@@ -1,12 +1,12 @@
 -- The index of a request: refusal 4, from the tests that the code makes.
 use mathlib.Core.Path.{_≡_, refl, sym, ap, _∙_}
-use mathlib.Core.Bool.{Bool, true, false}
+use mathlib.Core.Bool.{true}
 use mathlib.Core.List.{List}
 use mathlib.Core.Option.{Option, none, some}
-use Prim.Native.Nat.{ℕ, _≤_, _<_}
+use Prim.Native.Nat.{ℕ}
 use native.Mathlib.Omega.{arith}
-use lib.Dec.{ltb, leb}
-use lib.ListN.{length, getD}
+use lib.Dec.{leb}
+use lib.ListN.{getD}
 use borrow.Author.Tests.{ltb-true}
 use Rattle.request.specs.Table.{IndexField}
 use Rattle.request.specs.Request.{rowAt, indexIn, indexOk}

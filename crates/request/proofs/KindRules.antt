@@ -10,7 +10,7 @@ use lib.Seq.{take-all}
 use Rattle.delta.specs.Delta.{deltaOk}
 use Rattle.types.specs.Value.{valueWidth, valueAt, valueOk}
 use Rattle.request.specs.Table.{Kind, LastCommitted, Base, Write, AddDelta, Estimate, Remove, Fetch, Materialize, GroupBase, Exchange, GroupWrite, GroupEstimate, GroupRemove, GroupFetch, GroupSize, Finalize, row, table, rowOf}
-use Rattle.request.specs.Set.{tagsOf, Member, membersOf}
+use Rattle.request.specs.Set.{tagsOf, membersOf}
 use Rattle.request.specs.Request.{rowAt, tags, members, shapeOk, all, rawOk, exchangedOk, tagOk, fieldsOk}
 use Rattle.request.specs.Fields.{kindAt, setAt, sideOk, valuesOk}
 use Rattle.request.specs.declared.set.Set.{Set}

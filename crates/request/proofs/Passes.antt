@@ -1,6 +1,6 @@
 -- What is known of a request that passed the check: its length, its index and its tag, and the rules of its values.
 use mathlib.Core.Path.{_≡_, refl, sym, ap, _∙_}
-use mathlib.Core.Bool.{Bool, true, false, not, cond, _&&_, _||_}
+use mathlib.Core.Bool.{true, not, cond, _&&_, _||_}
 use mathlib.Core.List.{List}
 use mathlib.Core.Option.{Option, none, some}
 use Prim.Native.Nat.{ℕ, zero-le, _+_, _*_, _≤_}
@@ -14,7 +14,7 @@ use Rattle.types.specs.Value.{valueAt, valueOk, isDeletion}
 use Rattle.request.specs.Table.{Purpose, Edits, Reads, Materializes, Finalizes, IndexField, at, row, table, rowOf}
 use Rattle.request.specs.Set.{tagsOf, membersOf}
 use Rattle.request.specs.Request.{rowAt, tags, members, all, rawOk, exchangedOk, tagOk, fieldsOk, lastIndex, indexIn, indexOk}
-use Rattle.request.specs.Fields.{kindAt, indexField, indexAt, setAt, tagAs, fieldsAt}
+use Rattle.request.specs.Fields.{kindAt, indexField, indexAt, tagAs, fieldsAt}
 use Rattle.request.specs.declared.asked.Fields.{Fields}
 use Rattle.request.proofs.Checks.{Passed, shape-length}
 use Rattle.request.proofs.KindNumbers.{row-named}

@@ -11,7 +11,6 @@ use borrow.Author.Tests.{ltb-true, leb-true}
 use Rattle.types.specs.Value.{valueWidth}
 use Rattle.request.specs.Table.{IndexField, Row, LastCommitted, row, table, rowOf}
 use Rattle.request.specs.Table.{at}
-use Rattle.request.specs.Request.{lastIndex}
 use Rattle.request.specs.Rows.{placeOf, lastOf, layout}
 use Rattle.request.specs.declared.table.Row.{Row as CodeRow}
 use Rattle.request.specs.declared.table.Cells.{Cells}

@@ -1,6 +1,6 @@
 -- The tags of a set and the counts of its words' bits: the ones are as many as the tags, and the trailing zeros give the first.
-use mathlib.Core.Path.{_≡_, refl, sym, ap, _∙_}
-use mathlib.Core.Bool.{Bool, true, false, cond, _||_, or-false}
+use mathlib.Core.Path.{_≡_, refl, sym}
+use mathlib.Core.Bool.{Bool, true, false, _||_, or-false}
 use mathlib.Core.List.{List, [], _∷_, _++_}
 use Prim.Native.Nat.{ℕ, zero, suc, _+_, _-_, _*_, _/_, _%_, _^_, _≤_, _<_}
 use native.Mathlib.Nat.{le-refl, div-one, zero-add, mod-eq-of-lt, one-mul, pow-suc, add-zero, add-suc, suc-add}

@@ -1,5 +1,5 @@
 -- 01: "A tag is 0 to 63. A set is two words, bit n for tag n, low word first; values follow in rising tag order."
-use mathlib.Core.Bool.{Bool, true, false, cond, _||_}
+use mathlib.Core.Bool.{Bool, false, cond, _||_}
 use mathlib.Core.List.{List, [], _∷_, _++_}
 use Prim.Native.Nat.{ℕ, zero, suc, _/_, _%_}
 use lib.Dec.{eqb}

@@ -6,7 +6,7 @@ use types::value::VALUE_WIDTH;
 use types::value::ValueWithLayout;
 ghost use mathlib.Core.Path.{_≡_};
 ghost use mathlib.Core.Bool.{true};
-ghost use Prim.Native.Nat.{_+_, _*_, _<_, _≤_};
+ghost use Prim.Native.Nat.{_+_, _*_, _≤_};
 ghost use lib.ListN.{length, drop};
 ghost use Rattle.types.specs.Value.{valueWidth, valueAt};
 ghost use Rattle.request.specs.Table.{Exchange};

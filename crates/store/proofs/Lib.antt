@@ -7,3 +7,4 @@ pub mod Place
 pub mod Compare
 pub mod Moves
 pub mod Scans
+pub mod Packed

@@ -14,13 +14,10 @@ use Rattle.types.specs.Flag.{flagOf}
 use Rattle.types.specs.WriteOpKind.{kindOf}
 use Rattle.types.specs.Value.{writeOpKind, isCreation, isDeletion, hasNumber, numberIn, bytesLen}
 use Rattle.types.specs.ValueWithLayout.{lengthAnswer, bytesLenOf, asU128Of}
-use Rattle.types.specs.declared.index.IndexOrStorage.{IndexOrStorage}
 use Rattle.types.specs.declared.index.IndexOrStorage.the-variants.{Index, StorageVersion}
-use Rattle.types.specs.declared.flag.Flag.{Flag}
 use Rattle.types.specs.declared.flag.Flag.the-variants.{Done, Estimate}
 use Rattle.types.specs.declared.kind.WriteOpKind.{WriteOpKind}
 use Rattle.types.specs.declared.kind.WriteOpKind.the-variants.{Creation, Modification, Deletion}
-use Rattle.types.specs.declared.value.BytesLen.{BytesLen}
 use Rattle.types.specs.declared.value.BytesLen.the-variants.{Length, NoBytes}
 use Rattle.types.specs.declared.value.AsU128.{AsU128}
 use Rattle.types.specs.declared.value.AsU128.the-variants.{Deleted, Value, NotANumber}

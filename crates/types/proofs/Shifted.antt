@@ -1,11 +1,9 @@
 -- Shifted indexes: what a word of one stands for.
-use mathlib.Core.Path.{_≡_, refl, ap}
+use mathlib.Core.Path.{_≡_, refl}
 use Prim.Native.Nat.{ℕ, zero, suc, _-_, _<_, _≤_}
-use native.Mathlib.Nat.{not-suc-le-zero}
 use native.Mathlib.Numerals.{add-one}
 use native.Mathlib.Omega.{arith}
 use Rattle.types.specs.Index.{shift, indexOf}
-use Rattle.types.specs.declared.index.IndexOrStorage.{IndexOrStorage}
 use Rattle.types.specs.declared.index.IndexOrStorage.the-variants.{Index, StorageVersion}
 
 pub index-base : indexOf 0 ≡ StorageVersion

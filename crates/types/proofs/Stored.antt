@@ -1,8 +1,6 @@
 -- Flags and write kinds, and the numbers that they are stored as.
 use mathlib.Core.Path.{_≡_, refl}
-use Prim.Native.Nat.{ℕ, zero, suc, _≤_}
-use native.Mathlib.Omega.{arith}
-use lib.Dec.{eqb}
+use Prim.Native.Nat.{ℕ}
 use borrow.Author.Tests.{eq-eqb, ne-eqb}
 use Rattle.types.specs.Flag.{flagOf, flagWord}
 use Rattle.types.specs.WriteOpKind.{kindOf, kindBits}

@@ -4,4 +4,3 @@ pub mod Flag
 pub mod WriteOpKind
 pub mod Value
 pub mod ValueWithLayout
-pub mod Output

@@ -1,6 +1,6 @@
 -- A value as a struct and as its words (01, "Value, 7 words"): the struct's answers are those of `Value` on its words.
 use mathlib.Core.Bool.{cond}
-use mathlib.Core.List.{List, [], _∷_}
+use mathlib.Core.List.{List, _∷_}
 use mathlib.Core.Option.{Option, none, some}
 use Prim.Native.Nat.{ℕ, _^_, _<_}
 use lib.ListN.{getD}

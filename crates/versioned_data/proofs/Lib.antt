@@ -7,6 +7,7 @@ pub mod Contents
 pub mod Bases
 pub mod Putting
 pub mod Operations
+pub mod After
 pub mod Positions
 pub mod Scan
 pub mod SlotTest

@@ -1,6 +1,8 @@
+-- `versioned_data::base::over_base` meets its contract.
+-- Assumes nothing.
 use mathlib.Core.Path.{sym, _∙_}
-use Rattle.versioned_data.proofs.Bases.{over-both, over-raw, raw-over, raw-both}
 use borrow.Author.Needs.{needs}
+use Rattle.versioned_data.proofs.Bases.{over-both, over-raw, raw-over, raw-both}
 use Rattle.versioned_data.proofs.base.over_base.Statement.{statement}
 use Rattle.versioned_data.proofs.base.over_base.Tie as tie
 

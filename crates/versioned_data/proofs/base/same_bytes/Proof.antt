@@ -1,3 +1,5 @@
+-- `versioned_data::base::same_bytes` meets its contract.
+-- Assumes nothing.
 use mathlib.Core.Path.{sym, _∙_}
 use borrow.Author.Needs.{needs}
 use Rattle.versioned_data.proofs.Bases.{bytes-same}

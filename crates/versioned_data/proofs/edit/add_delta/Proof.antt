@@ -1,7 +1,9 @@
-use Rattle.versioned_data.proofs.Operations.{shifted-word, found-among, delta-added}
-use Rattle.versioned_data.proofs.Holding.{packed-valid}
+-- `versioned_data::edit::add_delta` meets its contract.
+-- Assumes nothing.
 use mathlib.Core.Path.{refl}
 use borrow.Author.Needs.{needs}
+use Rattle.versioned_data.proofs.Operations.{shifted-word, found-among, delta-added}
+use Rattle.versioned_data.proofs.Holding.{packed-valid}
 use Rattle.versioned_data.proofs.edit.add_delta.Statement.{statement}
 use Rattle.versioned_data.proofs.edit.add_delta.Tie as tie
 

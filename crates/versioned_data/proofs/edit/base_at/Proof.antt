@@ -1,6 +1,8 @@
-use Rattle.versioned_data.proofs.Putting.{there-room, there-words, base-absent, base-there}
+-- `versioned_data::edit::base_at` meets its contract.
+-- Assumes nothing.
 use native.Mathlib.Omega.{arith}
 use borrow.Author.Needs.{needs}
+use Rattle.versioned_data.proofs.Putting.{there-room, there-words, base-absent, base-there}
 use Rattle.versioned_data.proofs.edit.base_at.Statement.{statement}
 use Rattle.versioned_data.proofs.edit.base_at.Tie as tie
 

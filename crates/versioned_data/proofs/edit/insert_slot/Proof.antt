@@ -1,5 +1,7 @@
-use Rattle.versioned_data.proofs.Putting.{put-full, put-inserted, insert-room}
+-- `versioned_data::edit::insert_slot` meets its contract.
+-- Assumes nothing.
 use borrow.Author.Needs.{needs}
+use Rattle.versioned_data.proofs.Putting.{put-full, put-inserted, insert-room}
 use Rattle.versioned_data.proofs.edit.insert_slot.Statement.{statement}
 use Rattle.versioned_data.proofs.edit.insert_slot.Tie as tie
 

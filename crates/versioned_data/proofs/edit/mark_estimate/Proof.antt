@@ -1,7 +1,9 @@
-use Rattle.versioned_data.proofs.Operations.{shifted-word, mark-refused, mark-room, mark-done}
+-- `versioned_data::edit::mark_estimate` meets its contract.
+-- Assumes nothing.
 use mathlib.Core.Path.{refl}
 use native.Mathlib.Omega.{arith}
 use borrow.Author.Needs.{needs}
+use Rattle.versioned_data.proofs.Operations.{shifted-word, mark-refused, mark-room, mark-done}
 use Rattle.versioned_data.proofs.edit.mark_estimate.Statement.{statement}
 use Rattle.versioned_data.proofs.edit.mark_estimate.Tie as tie
 

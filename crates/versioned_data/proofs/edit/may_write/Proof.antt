@@ -1,6 +1,8 @@
-use Rattle.versioned_data.proofs.Putting.{there-room, may-absent, may-delta, may-higher}
+-- `versioned_data::edit::may_write` meets its contract.
+-- Assumes nothing.
 use native.Mathlib.Omega.{arith}
 use borrow.Author.Needs.{needs}
+use Rattle.versioned_data.proofs.Putting.{there-room, may-absent, may-delta, may-higher}
 use Rattle.versioned_data.proofs.edit.may_write.Statement.{statement}
 use Rattle.versioned_data.proofs.edit.may_write.Tie as tie
 

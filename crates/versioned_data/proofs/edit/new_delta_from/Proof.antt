@@ -1,6 +1,8 @@
-use Rattle.versioned_data.proofs.Putting.{delta-built}
+-- `versioned_data::edit::new_delta_from` meets its contract.
+-- Assumes nothing.
 use mathlib.Core.Path.{refl}
 use borrow.Author.Needs.{needs}
+use Rattle.versioned_data.proofs.Putting.{delta-built}
 use Rattle.versioned_data.proofs.edit.new_delta_from.Statement.{statement}
 use Rattle.versioned_data.proofs.edit.new_delta_from.Tie as tie
 

@@ -1,6 +1,8 @@
-use Rattle.versioned_data.proofs.Putting.{write-built}
+-- `versioned_data::edit::new_write_from` meets its contract.
+-- Assumes nothing.
 use mathlib.Core.Path.{refl}
 use borrow.Author.Needs.{needs}
+use Rattle.versioned_data.proofs.Putting.{write-built}
 use Rattle.versioned_data.proofs.edit.new_write_from.Statement.{statement}
 use Rattle.versioned_data.proofs.edit.new_write_from.Tie as tie
 

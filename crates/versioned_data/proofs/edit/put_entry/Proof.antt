@@ -1,5 +1,7 @@
-use Rattle.versioned_data.proofs.Putting.{there-room, among-absent, put-there, put-absent-is}
+-- `versioned_data::edit::put_entry` meets its contract.
+-- Assumes nothing.
 use borrow.Author.Needs.{needs}
+use Rattle.versioned_data.proofs.Putting.{there-room, among-absent, put-there, put-absent-is}
 use Rattle.versioned_data.proofs.edit.put_entry.Statement.{statement}
 use Rattle.versioned_data.proofs.edit.put_entry.Tie as tie
 

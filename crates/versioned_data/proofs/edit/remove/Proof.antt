@@ -1,7 +1,9 @@
-use Rattle.versioned_data.proofs.Operations.{shifted-word, remove-refused, remove-room, remove-done}
-use Rattle.versioned_data.proofs.Holding.{packed-valid}
+-- `versioned_data::edit::remove` meets its contract.
+-- Assumes nothing.
 use mathlib.Core.Path.{refl}
 use borrow.Author.Needs.{needs}
+use Rattle.versioned_data.proofs.Operations.{shifted-word, remove-refused, remove-room, remove-done}
+use Rattle.versioned_data.proofs.Holding.{packed-valid}
 use Rattle.versioned_data.proofs.edit.remove.Statement.{statement}
 use Rattle.versioned_data.proofs.edit.remove.Tie as tie
 

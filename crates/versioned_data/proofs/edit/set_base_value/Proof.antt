@@ -1,7 +1,9 @@
-use Rattle.versioned_data.proofs.Operations.{base-word, found-among, base-kept, base-refused, base-done}
-use Rattle.versioned_data.proofs.Holding.{packed-valid}
+-- `versioned_data::edit::set_base_value` meets its contract.
+-- Assumes nothing.
 use mathlib.Core.Path.{refl}
 use borrow.Author.Needs.{needs}
+use Rattle.versioned_data.proofs.Operations.{base-word, found-among, base-kept, base-refused, base-done}
+use Rattle.versioned_data.proofs.Holding.{packed-valid}
 use Rattle.versioned_data.proofs.edit.set_base_value.Statement.{statement}
 use Rattle.versioned_data.proofs.edit.set_base_value.Tie as tie
 

@@ -1,7 +1,9 @@
-use Rattle.versioned_data.proofs.Operations.{shifted-word, found-among, write-refused, write-done}
-use Rattle.versioned_data.proofs.Holding.{packed-valid}
+-- `versioned_data::edit::write` meets its contract.
+-- Assumes nothing.
 use mathlib.Core.Path.{refl}
 use borrow.Author.Needs.{needs}
+use Rattle.versioned_data.proofs.Operations.{shifted-word, found-among, write-refused, write-done}
+use Rattle.versioned_data.proofs.Holding.{packed-valid}
 use Rattle.versioned_data.proofs.edit.write.Statement.{statement}
 use Rattle.versioned_data.proofs.edit.write.Tie as tie
 

@@ -1,6 +1,8 @@
+-- `versioned_data::find::find_entry` meets its contract.
+-- Assumes nothing.
+use borrow.Author.Needs.{needs}
 use Rattle.versioned_data.proofs.Holding.{packed-valid}
 use Rattle.versioned_data.proofs.Finding.{search-full, search-there, search-absent}
-use borrow.Author.Needs.{needs}
 use Rattle.versioned_data.proofs.find.find_entry.Statement.{statement}
 use Rattle.versioned_data.proofs.find.find_entry.Tie as tie
 
