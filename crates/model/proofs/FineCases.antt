@@ -19,7 +19,7 @@ use Rattle.model.specs.Group.{Update, Committed}
 use Rattle.model.specs.Model.{Model}
 use Rattle.model.specs.Fine.{fine}
 use Rattle.model.specs.Fine
-use Rattle.model.proofs.Places.{rowAt}
+use Rattle.model.specs.Rows.{rowAt}
 
 unfoldable pub entry : ℕ → ℕ → Bool → Cell → Row Entry
 entry key place estimate c = rowAt key place (record { cell = c; estimate = estimate })

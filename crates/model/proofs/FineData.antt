@@ -14,7 +14,7 @@ use Rattle.model.specs.Rows.{Row, rising, every, find, downFrom, Edit, l
 use Rattle.model.specs.Data.{Cell, write, delta, Entry, done, Ruling, refuse, accept, Read, versioned, resolved, unresolved, uninitialized, dependency, applicationFailure, refusal, readOf, doneAnswer, sameExchanged, sameBytes, unlessDiffers, baseOver, baseOnto, setBaseValue, mayWrite, writeValue, addDelta, markEstimate, remove, withShortcut, record-shortcut, materialized, materializeDelta}
 use Rattle.model.specs.Fine.{isWord, isNumber, fineValue, fineDelta, fineShortcut, fineCell, fineEntry, fineEntries, fineRead}
 use Rattle.model.proofs.Lists.{and-left, and-right, and-both}
-use Rattle.model.proofs.Places.{rowAt}
+use Rattle.model.specs.Rows.{rowAt}
 use Rattle.model.proofs.Maps.{passes, editPasses, every-find, every-downFrom, rising-every-edited}
 use Rattle.model.proofs.Walk.{word-tell, write-incarnation, write-value, write-side, delta-delta, readOf-fine}
 

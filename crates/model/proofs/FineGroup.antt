@@ -15,7 +15,7 @@ use Rattle.model.specs.Data.{Ruling, refuse, accept, doneAnswer}
 use Rattle.model.specs.Group.{Update, Committed, isSome, valueOf, commitOver, commitNew, commitOne, commitRest, commit, Commits, commits, firstBase, allAgree, setRawBaseValues, replaced, exchangeRaw, exchangeIn, updateTaggedBaseValue, writeGroup, markGroup, removeGroup, getLastCommittedGroup, finalizedTo, finalizeGroup}
 use Rattle.model.specs.Fine.{isWord, fineValue, risingFrom, fineMember, fineMembers, fineUpdate, fineUpdates, fineCommitted, fineGroup}
 use Rattle.model.proofs.Lists.{and-left, and-right, and-both, and-three}
-use Rattle.model.proofs.Places.{rowAt}
+use Rattle.model.specs.Rows.{rowAt}
 use Rattle.model.proofs.Maps.{passes, editPasses, every-find, every-put, every-erase, rising-every-edited}
 use Rattle.model.proofs.Rows.{rising-put, rising-erase}
 use Rattle.model.proofs.Walk.{word-tell}

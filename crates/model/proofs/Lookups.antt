@@ -11,7 +11,8 @@ use lib.Dec.{leb, ltb, eqb, leb·suc-suc}
 use borrow.Author.Tests.{leb-true, eqb-true, le-ltb, le-leb, lt-leb, eq-eqb}
 use Rattle.model.specs.Rows.{Row, keep, every, isBelow, isAt, isAbove, rising, heldFirst, find, put, erase, isUpTo, downFrom, Edit, leave, set, clear, edited}
 use Rattle.model.proofs.Lists.{keep-both, keep-append, keep-stronger, keep-none, keep-all, every-kept, every-imp}
-use Rattle.model.proofs.Places.{rowAt, at-absent, at-present}
+use Rattle.model.specs.Rows.{rowAt}
+use Rattle.model.proofs.Places.{at-absent, at-present}
 use Rattle.model.proofs.Rows.{Side, lower, here, upper, side, at-key, at-place, above-not-at, below-not-at, split}
 
 -- ---- look-ups after an edit

@@ -1,4 +1,5 @@
--- Rising rows as a finite map: what a look-up finds after an edit, and what every row keeps to after one.
+-- Rising rows as a finite map: what every row keeps to after an edit, and that equal look-ups are equal rows. (What a look-up finds after an
+-- edit: `Lookups`.)
 -- Assumes nothing.
 use mathlib.Core.Path.{_≡_, refl, sym, _∙_, ap, ap₂}
 use mathlib.Core.Bool.{Bool, true, false, not, _&&_}
@@ -10,7 +11,8 @@ use borrow.Author.Tests.{eq-eqb}
 use Rattle.model.specs.Rows.{Row, keep, every, isBelow, isAt, isAbove, rising, heldFirst, find, put, erase, isUpTo, downFrom, Edit, leave, set, clear, edited}
 use Rattle.model.proofs.Lists.{and-left, and-right, and-both, keep-append, keep-stronger, keep-none, every-imp, every-keep, every-kept, every-append, every-reverse}
 use Rattle.model.proofs.Rows.{Side, lower, here, upper, side, split, at-key, at-place, above-not-at, below-not-at, at-above, above-above, above-tell, below-told, rising-edited}
-use Rattle.model.proofs.Places.{rowAt}
+use Rattle.model.specs.Rows.{rowAt}
+use Rattle.model.proofs.Places.{new-is-at}
 
 -- What a test of a row says of what stands at a key and place, and of an edit there.
 unfoldable pub passes : {A : Type 0} → (Row A → Bool) → ℕ → ℕ → Option A → Bool
@@ -61,66 +63,6 @@ module _ {A : Type 0} where
       and-both (rising (edited k p e rows)) (every t (edited k p e rows))
       (rising-edited k p e rows (and-left (rising rows) (every t rows) h)) (every-edited t k p e rows n (and-right (rising rows) (every t rows) h))
 
--- ---- look-ups after an edit
-
--- two keys and places that are not the same
-abbrev pub Apart : ℕ → ℕ → ℕ → ℕ → Type 0
-Apart k p l q = k ≡ l → p ≡ q → ⊥
-
-module _ {A : Type 0} (k p : ℕ) where
-  at-itself : (a : A) → isAt k p (rowAt k p a) ≡ true
-  unfolding isAt rowAt
-  at-itself a = rw (eq-eqb k k refl, eq-eqb p p refl)
-
-  not-both : (l q : ℕ) → Apart k p l q → (r : Row A) → isAt k p r ≡ true → isAt l q r ≡ false
-  not-both l q o r e = go (isAt l q r) refl
-    where
-      go : (b : Bool) → isAt l q r ≡ b → isAt l q r ≡ false
-      go true f = absurd (o (sym (at-key k p r e) ∙ at-key l q r f) (sym (at-place k p r e) ∙ at-place l q r f))
-      go false f = f
-
-  pub find-put-same : (a : A) (rows : List (Row A)) → find k p (put k p a rows) ≡ some a
-  unfolding find put keep heldFirst rowAt
-  find-put-same a rows =
-      let e : keep (isAt k p) (keep (isBelow k p) rows) ≡ [] = keep-none (isAt k p) (isBelow k p) (λ r. below-not-at k p r) (keep (isBelow k p) rows) (every-kept (isBelow k p) rows) in
-      ap heldFirst (keep-append (isAt k p) (keep (isBelow k p) rows) (rowAt k p a ∷ keep (isAbove k p) rows)) ∙ rw (e, at-itself a)
-
-  pub find-erase-same : (rows : List (Row A)) → find k p (erase k p rows) ≡ none
-  unfolding find erase heldFirst
-  find-erase-same rows =
-      ap heldFirst
-      (keep-none (isAt k p) (λ r. not (isAt k p r)) out (keep (λ r. not (isAt k p r)) rows) (every-kept (λ r. not (isAt k p r)) rows))
-    where
-      out : (r : Row A) → not (isAt k p r) ≡ true → isAt k p r ≡ false
-      out r e = go (isAt k p r) refl
-        where
-          go : (b : Bool) → isAt k p r ≡ b → isAt k p r ≡ false
-          go true f = absurd (let z : not true ≡ true = rw f at e in let y : _≡_ {A = ℕ} 0 1 = cc in omega arith)
-          go false f = f
-
-  module _ (l q : ℕ) (o : Apart k p l q) where
-    pub find-erase-other : (rows : List (Row A)) → find l q (erase k p rows) ≡ find l q rows
-    unfolding find erase
-    find-erase-other rows = ap heldFirst (keep-stronger (isAt l q) (λ r. not (isAt k p r)) (λ r e. stays r e (isAt k p r) refl) rows)
-      where
-        stays : (r : Row A) → isAt l q r ≡ true → (b : Bool) → isAt k p r ≡ b → not (isAt k p r) ≡ true
-        stays r e true f = absurd (let z : isAt l q r ≡ false = not-both l q o r f in let y : _≡_ {A = ℕ} 0 1 = cc in omega arith)
-        stays r e false f = rw f
-
-    pub find-put-other : (a : A) (rows : List (Row A)) → rising rows ≡ true → find l q (put k p a rows) ≡ find l q rows
-    unfolding find put keep rowAt
-    find-put-other a rows g =
-        ap heldFirst
-        (keep-append (isAt l q) (keep (isBelow k p) rows) (rowAt k p a ∷ keep (isAbove k p) rows)
-        ∙ rw (not-both l q o (rowAt k p a) (at-itself a))
-        (sym
-        (ap (keep (isAt l q)) (split k p rows g)
-        ∙ keep-append (isAt l q) (keep (isBelow k p) rows) (keep (isAt k p) rows ++ keep (isAbove k p) rows)
-        ∙ ap (λ (x : List (Row A)). keep (isAt l q) (keep (isBelow k p) rows) ++ x)
-        (keep-append (isAt l q) (keep (isAt k p) rows) (keep (isAbove k p) rows)
-        ∙ ap (λ (x : List (Row A)). x ++ keep (isAt l q) (keep (isAbove k p) rows))
-        (keep-none (isAt l q) (isAt k p) (λ r e. not-both l q o r e) (keep (isAt k p) rows) (every-kept (isAt k p) rows))))))
-
 -- ---- rising rows are told apart by their look-ups
 
 module _ {A : Type 0} where
@@ -138,7 +80,7 @@ module _ {A : Type 0} where
 
   find-self : (r : Row A) (rs : List (Row A)) → find (r .key) (r .place) (r ∷ rs) ≡ some (r .held)
   unfolding rowAt
-  find-self r rs = find-here (r .key) (r .place) r rs (at-itself (r .key) (r .place) (r .held))
+  find-self r rs = find-here (r .key) (r .place) r rs (new-is-at (r .key) (r .place) (r .held))
 
   -- rows above the first of others do not find what those find there
   missed : (r : Row A) (rs ss : List (Row A)) → every (isAbove (r .key) (r .place)) ss ≡ true → find (r .key) (r .place) (r ∷ rs) ≡ find (r .key) (r .place) ss → ⊥

@@ -11,16 +11,9 @@ use lib.Dec.{leb, ltb, eqb, leb·suc-suc}
 use lib.ListN.{length, getD, set, take, drop, length-append}
 use lib.Seq.{take-suc, take-at, drop-at, getD-at, set-at, drop-drop}
 use borrow.Author.Tests.{leb-true, eqb-true, le-ltb, le-leb, eq-eqb}
-use Rattle.model.specs.Rows.{Row, keep, every, isBelow, isAt, isAbove, rising, heldFirst, find, put, erase, isUpTo, downFrom}
+use Rattle.model.specs.Rows.{Row, keep, every, isBelow, isAt, isAbove, rising, heldFirst, find, put, erase, isUpTo, downFrom, rank, rowAt, front, downAt}
 use Rattle.model.proofs.Lists.{and-left, and-right, and-both, keep-append, keep-all, keep-none, every-imp, every-kept, every-reverse, keep-both}
 use Rattle.model.proofs.Rows.{Side, lower, here, upper, side, split, at-key, at-place, above-not-at, below-not-at, at-above, above-told, below-told, Over, rising-keep}
-
--- How many rows stand below a key and place: the position of the row there, or where it would be inserted.
-unfoldable pub rank : {A : Type 0} → ℕ → ℕ → List (Row A) → ℕ
-rank k p rs = length (keep (isBelow k p) rs)
-
-unfoldable pub rowAt : {A : Type 0} → ℕ → ℕ → A → Row A
-rowAt k p a = record { key = k; place = p; held = a }
 
 module _ {A : Type 0} (k p : ℕ) where
   -- at a key and place stands at most one row
@@ -55,7 +48,7 @@ module _ {A : Type 0} (k p : ℕ) where
           let held-is : r .held ≡ a = cc in
           rw (f, none-later f) (ap (λ (x : Row A). x ∷ []) (row-is r f ∙ ap (rowAt k p) held-is))
 
-  new-is-at : (a : A) → isAt k p (rowAt k p a) ≡ true
+  pub new-is-at : (a : A) → isAt k p (rowAt k p a) ≡ true
   unfolding isAt rowAt
   new-is-at a = rw (eq-eqb k k refl, eq-eqb p p refl)
 
@@ -127,11 +120,6 @@ module _ {A : Type 0} (k p : ℕ) where
           erase-whole : erase k p (keep (isBelow k p) rs ++ (rowAt k p b ∷ keep (isAbove k p) rs)) ≡ keep (isBelow k p) rs ++ keep (isAbove k p) rs
           erase-whole = erase-around (keep (isBelow k p) rs) (rowAt k p b) (keep (isAbove k p) rs) new-at (stays (isBelow k p) (λ r. below-not-at k p r)) (stays (isAbove k p) (λ r. above-not-at k p r))
 
--- The elements at the front that pass a test.
-unfoldable pub front : {A : Type 0} → (A → Bool) → List A → List A
-front p [] = []
-front p (x ∷ xs) = cond (p x) (x ∷ front p xs) []
-
 module _ {A : Type 0} (q : A → Bool) where
   front-all : (xs ys : List A) → every q xs ≡ true → front q (xs ++ ys) ≡ xs ++ front q ys
   unfolding front every
@@ -146,10 +134,6 @@ module _ {A : Type 0} (q : A → Bool) where
       go : (b : Bool) → q x ≡ b → front q (xs ++ (y ∷ [])) ≡ front q xs → front q (x ∷ (xs ++ (y ∷ []))) ≡ front q (x ∷ xs)
       go true f ih = rw (f, ih)
       go false f ih = rw f
-
--- The walk down a key's rows from a position.
-unfoldable pub downAt : {A : Type 0} → ℕ → ℕ → List (Row A) → List (Row A)
-downAt k i rs = front (λ r. eqb (r .key) k) (reverse (take i rs))
 
 module _ {A : Type 0} (k : ℕ) where
   -- where a row has the key and those above it have none higher, they have it too

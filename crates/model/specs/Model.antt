@@ -1,4 +1,5 @@
 -- The whole behaviour of 01 as one function: from the model of the two stores and a request's words to an outcome and the model after.
+-- 1 and 5 are not decided here: 1 is about the answer slice, 5 about the words that a store is kept in.
 use mathlib.Core.Bool.{Bool, cond, _&&_}
 use mathlib.Core.List.{List, [], _∷_}
 use mathlib.Core.Option.{Option}

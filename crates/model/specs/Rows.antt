@@ -1,6 +1,7 @@
 -- Rows in rising order of key and place: what a store holds, seen as a finite map. The place is a shifted index, or the tag of a committed value.
 use mathlib.Core.Bool.{Bool, true, cond, not, _&&_, _||_}
 use mathlib.Core.List.{List, [], _∷_, _++_, reverse}
+use lib.ListN.{length, take}
 use mathlib.Core.Option.{Option, none, some}
 use Prim.Native.Nat.{ℕ}
 use lib.Dec.{leb, ltb, eqb}
@@ -69,3 +70,19 @@ unfoldable pub edited : {A : Type 0} → ℕ → ℕ → Edit A → List (Row A)
 edited k p leave rows = rows
 edited k p (set a) rows = put k p a rows
 edited k p clear rows = erase k p rows
+
+-- How many rows stand below a key and place: the position of the row there, or where it would be inserted.
+unfoldable pub rank : {A : Type 0} → ℕ → ℕ → List (Row A) → ℕ
+rank k p rs = length (keep (isBelow k p) rs)
+
+unfoldable pub rowAt : {A : Type 0} → ℕ → ℕ → A → Row A
+rowAt k p a = record { key = k; place = p; held = a }
+
+-- The elements at the front that pass a test.
+unfoldable pub front : {A : Type 0} → (A → Bool) → List A → List A
+front p [] = []
+front p (x ∷ xs) = cond (p x) (x ∷ front p xs) []
+
+-- The walk down a key's rows from a position.
+unfoldable pub downAt : {A : Type 0} → ℕ → ℕ → List (Row A) → List (Row A)
+downAt k i rs = front (λ r. eqb (r .key) k) (reverse (take i rs))

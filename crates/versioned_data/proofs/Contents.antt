@@ -1,34 +1,33 @@
 -- What the words of the slot that was found say of the entry there.
 -- Assumes nothing.
 use mathlib.Core.Path.{_≡_, refl, sym, _∙_, ap}
-use mathlib.Core.Bool.{Bool, true, false, cond, not, _&&_}
+use mathlib.Core.Bool.{Bool, true, false, cond, _&&_}
 use mathlib.Core.List.{List, [], _∷_, _++_}
 use mathlib.Core.Option.{Option, none, some}
-use Prim.Native.Nat.{ℕ, zero, suc, _+_, _-_, _*_, _≤_, _<_}
+use Prim.Native.Nat.{ℕ, _+_, _-_, _*_, _≤_, _<_}
 use native.Mathlib.Omega.{arith}
-use lib.Dec.{leb, ltb, eqb}
+use lib.Dec.{ltb, eqb}
 use lib.ListN.{length, getD, replicate, List·getD-append}
 use lib.Seq.{ext-getD, getD-append-add}
 use Rattle.delta.specs.Delta.{Delta}
 use Rattle.types.specs.Value.{valueAt, valueWidth, isExchanged}
 use Rattle.types.proofs.Values.{length-valueAt, getD-valueAt}
-use Rattle.store.specs.Slots.{Slot, slotWidth, slotsIn}
+use Rattle.store.specs.Slots.{slotWidth}
 use Rattle.store.proofs.Words.{slot-inside}
-use Rattle.model.specs.Rows.{Row, every, keep, isAt, find, Edit}
-use Rattle.model.specs.Data.{Cell, write, delta, Entry, Ruling, refuse, accept, sameBytes, sameExchanged, unlessDiffers, baseOver, baseOnto, setBaseValue, yields, mayWrite}
+use Rattle.model.specs.Rows.{every, isAt, find}
+use Rattle.model.specs.Data.{Cell, write, delta, Entry, sameBytes, sameExchanged, unlessDiffers, baseOver, baseOnto, setBaseValue, yields, mayWrite}
 use Rattle.model.specs.Fine.{fineCell, fineEntry, isWord}
 use Rattle.model.proofs.Lists.{and-left, and-right, every-keep}
-use Rattle.model.proofs.Places.{rank, rowAt, at-present}
+use Rattle.model.specs.Rows.{rank, rowAt}
+use Rattle.model.proofs.Places.{at-present}
 use Rattle.versioned_data.specs.Layout.{padded, formOf, flagOf, bodyOf, slotOf, entriesIn, dataValid}
 use Rattle.versioned_data.specs.Found.{foundOf, foundIn, mayPut}
 use Rattle.versioned_data.specs.Base.{keptIf, overBase, baseAt, baseRuling}
-use Rattle.versioned_data.specs.declared.base.Base.{Base}
-use Rattle.versioned_data.specs.declared.base.Base.the-variants.{Keep, Set, Differs}
-use Rattle.versioned_data.proofs.Entries.{fine-value, value-length}
+use Rattle.model.proofs.Walk.{write-value, value-length}
 use Rattle.versioned_data.proofs.Holding.{rising-valid, every-valid}
 use Rattle.versioned_data.proofs.Edits.{place-inside, word-valid}
 
-slot-form : (k p : ℕ) (b : Entry) → getD (slotOf (rowAt k p b)) 4 0 ≡ formOf (b .cell)
+pub slot-form : (k p : ℕ) (b : Entry) → getD (slotOf (rowAt k p b)) 4 0 ≡ formOf (b .cell)
 unfolding slotOf padded rowAt
 slot-form k p b = refl
 
@@ -78,7 +77,7 @@ slot-value k p i w b j e h = rw e (value-padded 1 k p 0 (formOf (write i w)) (fl
 module _ (s : List ℕ) (v : dataValid s ≡ true) (k p : ℕ) (b : Entry) (e : find k p (entriesIn s) ≡ some b) where
   pub value-valid : (i : ℕ) (w : List ℕ) → b .cell ≡ write i w → valueAt (slotWidth * rank k p (entriesIn s) + 7) s ≡ w
   value-valid i w f =
-      let seven : length w ≡ valueWidth = value-length w (fine-value p (b .estimate) i w (rw f at (fine-there s v k p b e))) in
+      let seven : length w ≡ valueWidth = value-length w (write-value p (b .estimate) i w (rw f at (fine-there s v k p b e))) in
       let inside : slotWidth * rank k p (entriesIn s) + slotWidth ≤ length s = slot-inside (rank k p (entriesIn s)) (length s) (place-inside s v k p b e) in
       let size : length (valueAt (slotWidth * rank k p (entriesIn s) + 7) s) ≡ valueWidth = length-valueAt s (slotWidth * rank k p (entriesIn s) + 7) (omega arith) in
       ext-getD 0 (valueAt (slotWidth * rank k p (entriesIn s) + 7) s) w (size ∙ sym seven)

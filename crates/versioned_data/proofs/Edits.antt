@@ -1,20 +1,21 @@
 -- An edit of a valid store's words at the place of an entry is that edit of its entries.
 -- Assumes nothing.
-use mathlib.Core.Path.{_≡_, refl, sym, _∙_, ap, ap₂}
-use mathlib.Core.Bool.{Bool, true, false}
+use mathlib.Core.Path.{_≡_, refl, sym, _∙_, ap}
+use mathlib.Core.Bool.{Bool, true}
 use mathlib.Core.List.{List, [], _∷_, _++_, map, map-append}
-use mathlib.Core.Option.{Option, none, some}
-use Prim.Native.Nat.{ℕ, zero, suc, _+_, _-_, _*_, _≤_, _<_}
+use mathlib.Core.Option.{none, some}
+use Prim.Native.Nat.{ℕ, zero, suc, _+_, _*_, _≤_, _<_}
 use native.Mathlib.Omega.{arith}
-use lib.ListN.{length, getD, set, take, drop, length-map, List·getD-map}
+use lib.ListN.{length, getD, set, take, drop, length-map}
 use Rattle.store.specs.Slots
 use Rattle.store.specs.Slots.{Slot, slotWidth, slotsIn, encode, isWhole, opened, closed, written, inserted, removed}
-use Rattle.store.proofs.Encode.{word-encode, slotAt-encode}
+use Rattle.store.proofs.Encode.{word-encode}
 use Rattle.store.proofs.Edits.{written-opened-encode, closed-encode, written-encode, set-encode}
-use Rattle.model.specs.Rows.{Row, rising, find, put, erase}
+use Rattle.model.specs.Rows.{find, put, erase}
 use Rattle.model.specs.Data.{Cell, Entry}
-use Rattle.model.proofs.Places.{rank, rowAt, rank-le, rank-lt, getD-rank, put-absent, put-present, erase-present}
-use Rattle.versioned_data.specs.Layout.{padded, formOf, flagOf, bodyOf, slotOf, entriesIn, holding, dataValid}
+use Rattle.model.specs.Rows.{rank, rowAt}
+use Rattle.model.proofs.Places.{rank-le, rank-lt, getD-rank, put-absent, put-present, erase-present}
+use Rattle.versioned_data.specs.Layout.{padded, flagOf, slotOf, entriesIn, holding, dataValid}
 use Rattle.versioned_data.proofs.Entries.{slots-whole}
 use Rattle.versioned_data.proofs.Holding.{holding-entries, rising-valid, every-valid, few-valid}
 
@@ -54,13 +55,13 @@ unfolding slotOf padded flagOf rowAt
 slot-estimate k p c b = refl
 
 module _ (s : List ℕ) (v : dataValid s ≡ true) (k p : ℕ) where
-  slots-valid : Slots.every isWhole (map slotOf (entriesIn s)) ≡ true
+  pub slots-valid : Slots.every isWhole (map slotOf (entriesIn s)) ≡ true
   slots-valid = slots-whole (entriesIn s) (every-valid s v)
 
-  slots-few : length (map slotOf (entriesIn s)) ≤ slotsIn (length s)
+  pub slots-few : length (map slotOf (entriesIn s)) ≤ slotsIn (length s)
   slots-few = rw (length-map (entriesIn s) slotOf) (few-valid s v)
 
-  encode-entries : s ≡ encode s (map slotOf (entriesIn s))
+  pub encode-entries : s ≡ encode s (map slotOf (entriesIn s))
   unfolding holding
   encode-entries = sym (holding-entries s v)
 
@@ -79,13 +80,13 @@ module _ (s : List ℕ) (v : dataValid s ≡ true) (k p : ℕ) where
     pub place-lt : rank k p (entriesIn s) < length (entriesIn s)
     place-lt = rank-lt k p (entriesIn s) (rising-valid s v) b e
 
-    place-slots : rank k p (entriesIn s) < length (map slotOf (entriesIn s))
+    pub place-slots : rank k p (entriesIn s) < length (map slotOf (entriesIn s))
     place-slots = rw (length-map (entriesIn s) slotOf) place-lt
 
     pub place-inside : rank k p (entriesIn s) < slotsIn (length s)
     place-inside = omega (arith, place-lt, few-valid s v)
 
-    slot-valid : getD (map slotOf (entriesIn s)) (rank k p (entriesIn s)) [] ≡ slotOf (rowAt k p b)
+    pub slot-valid : getD (map slotOf (entriesIn s)) (rank k p (entriesIn s)) [] ≡ slotOf (rowAt k p b)
     slot-valid =
         getD-map-lt slotOf (entriesIn s) (rank k p (entriesIn s)) (rowAt k p b) [] place-lt
         ∙ ap slotOf (getD-rank k p (entriesIn s) (rising-valid s v) b e (rowAt k p b))
@@ -98,7 +99,7 @@ module _ (s : List ℕ) (v : dataValid s ≡ true) (k p : ℕ) where
         ∙ ap (λ (u : Slot). getD u j 0) slot-valid
 
     -- something there: a replacement
-    put-slots : (a : Entry) → set (map slotOf (entriesIn s)) (rank k p (entriesIn s)) (slotOf (rowAt k p a)) ≡ map slotOf (put k p a (entriesIn s))
+    pub put-slots : (a : Entry) → set (map slotOf (entriesIn s)) (rank k p (entriesIn s)) (slotOf (rowAt k p a)) ≡ map slotOf (put k p a (entriesIn s))
     put-slots a =
         sym (map-set slotOf (entriesIn s) (rank k p (entriesIn s)) (rowAt k p a))
         ∙ ap (map slotOf) (sym (put-present k p (entriesIn s) (rising-valid s v) b e a))

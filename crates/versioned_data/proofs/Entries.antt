@@ -21,30 +21,9 @@ use Rattle.store.specs.Slots.{Slot, slotWidth, isWhole, isUsed, before, isBefor
 use Rattle.model.specs.Rows.{Row, every, rising, isBelow, isAbove}
 use Rattle.model.specs.Data.{Cell, write, delta, Entry}
 use Rattle.model.specs.Fine.{isWord, isNumber, fineValue, fineDelta, fineShortcut, fineCell, fineEntry}
+use Rattle.model.proofs.Walk.{value-length, write-value, delta-delta, delta-shortcut, entry-cell}
 use Rattle.model.proofs.Lists.{and-left, and-right, and-both}
 use Rattle.versioned_data.specs.Layout.{padded, formOf, flagOf, bodyOf, slotOf, cellOf, entryOf}
-
--- What a fine cell says of its parts.
-module _ (place : ℕ) (estimate : Bool) where
-  pub fine-value : (i : ℕ) (v : List ℕ) → fineCell place estimate (write i v) ≡ true → fineValue v ≡ true
-  unfolding fineCell
-  fine-value i v h =
-      and-right (isWord i) (fineValue v)
-      (and-left (isWord i && fineValue v) (cond (eqb place 0) (eqb i 0 && not estimate) (isExchanged v)) h)
-
-  pub fine-delta : (d : Delta) (n : Option ℕ) → fineCell place estimate (delta d n) ≡ true → fineDelta d ≡ true
-  unfolding fineCell
-  fine-delta d n h = and-right (not (eqb place 0)) (fineDelta d) (and-left (not (eqb place 0) && fineDelta d) (fineShortcut n) h)
-
-  pub fine-shortcut : (d : Delta) (n : Option ℕ) → fineCell place estimate (delta d n) ≡ true → fineShortcut n ≡ true
-  unfolding fineCell
-  fine-shortcut d n h = and-right (not (eqb place 0) && fineDelta d) (fineShortcut n) h
-
-pub value-length : (v : List ℕ) → fineValue v ≡ true → length v ≡ valueWidth
-unfolding fineValue
-value-length v h =
-    eqb-true (length v) valueWidth
-    (and-left (eqb (length v) valueWidth) (every isWord v) (and-left (eqb (length v) valueWidth && every isWord v) (valueOk v) h))
 
 pub delta-words-back : (d : Delta) → fineDelta d ≡ true → deltaAt (deltaWords d) ≡ d
 unfolding fineDelta isNumber
@@ -58,7 +37,7 @@ delta-words-length d = length-deltaWords d
 -- A slot has 32 words: the head's six, the body's 8, 17 or 21, and zeros.
 pub body-length : (place : ℕ) (estimate : Bool) (c : Cell) → fineCell place estimate c ≡ true → length (bodyOf c) ≤ 26
 unfolding bodyOf
-body-length place estimate (write i v) h = omega (arith, value-length v (fine-value place estimate i v h))
+body-length place estimate (write i v) h = omega (arith, value-length v (write-value place estimate i v h))
 body-length place estimate (delta d none) h = omega (arith, delta-words-length d)
 body-length place estimate (delta d (some n)) h =
     omega (arith, length-append (deltaWords d) (digits 4 n), delta-words-length d, length-digits 4 n)
@@ -68,16 +47,12 @@ unfolding padded
 padded-whole ws h =
     omega (arith, length-append ws (replicate (slotWidth - length ws) 0), length-replicate (slotWidth - length ws) (let z : ℕ = 0 in z))
 
-pub fine-is : (r : Row Entry) → fineEntry r ≡ true → fineCell (r .place) (r .held .estimate) (r .held .cell) ≡ true
-unfolding fineEntry
-fine-is r h = and-right (isWord (r .key) && isWord (r .place)) (fineCell (r .place) (r .held .estimate) (r .held .cell)) h
-
 pub slot-whole : (r : Row Entry) → fineEntry r ≡ true → isWhole (slotOf r) ≡ true
 unfolding isWhole slotOf
 slot-whole r h =
     eq-eqb (length (slotOf r)) slotWidth
     (padded-whole (1 ∷ r .key ∷ r .place ∷ 0 ∷ formOf (r .held .cell) ∷ flagOf (r .held .estimate) ∷ bodyOf (r .held .cell))
-    (omega (arith, body-length (r .place) (r .held .estimate) (r .held .cell) (fine-is r h))))
+    (omega (arith, body-length (r .place) (r .held .estimate) (r .held .cell) (entry-cell r h))))
 
 pub slot-used : (r : Row Entry) → isUsed (slotOf r) ≡ true
 unfolding isUsed slotOf padded
@@ -118,7 +93,7 @@ estimate-back false = refl
 module _ (place : ℕ) (estimate : Bool) (zs : List ℕ) where
   -- the parts of a body, whatever follows it
   pub value-in : (i : ℕ) (v : List ℕ) → fineCell place estimate (write i v) ≡ true → take valueWidth (v ++ zs) ≡ v
-  value-in i v f = take-at v zs valueWidth (value-length v (fine-value place estimate i v f))
+  value-in i v f = take-at v zs valueWidth (value-length v (write-value place estimate i v f))
 
   pub delta-in : (d : Delta) → fineDelta d ≡ true → (ys : List ℕ) → deltaAt (take 17 (deltaWords d ++ ys)) ≡ d
   delta-in d f ys = ap deltaAt (take-at (deltaWords d) ys 17 (delta-words-length d)) ∙ delta-words-back d f
@@ -136,12 +111,12 @@ cell-back place key estimate (write i v) f =
     ap (write i) (value-in place estimate (replicate (slotWidth - suc (suc (suc (suc (suc (suc (length (i ∷ v)))))))) 0) i v f)
 cell-back place key estimate (delta d none) f =
     ap (λ (x : Delta). delta x none)
-    (delta-in place estimate [] d (fine-delta place estimate d none f) (replicate (slotWidth - suc (suc (suc (suc (suc (suc (length (deltaWords d)))))))) 0))
+    (delta-in place estimate [] d (delta-delta place estimate d none f) (replicate (slotWidth - suc (suc (suc (suc (suc (suc (length (deltaWords d)))))))) 0))
 cell-back place key estimate (delta d (some n)) f =
     ap₂ (λ (x : Delta) (m : ℕ). delta x (some m))
     (ap (λ (l : List ℕ). deltaAt (take 17 l)) (append-assoc (deltaWords d) (digits 4 n) zs)
-    ∙ delta-in place estimate zs d (fine-delta place estimate d (some n) f) (digits 4 n ++ zs))
-    (shortcut-in place estimate zs d n (fine-shortcut place estimate d (some n) f))
+    ∙ delta-in place estimate zs d (delta-delta place estimate d (some n) f) (digits 4 n ++ zs))
+    (shortcut-in place estimate zs d n (delta-shortcut place estimate d (some n) f))
   where
     zs : List ℕ
     zs = replicate (slotWidth - suc (suc (suc (suc (suc (suc (length (deltaWords d ++ digits 4 n)))))))) 0
@@ -152,7 +127,7 @@ entry-back r h i =
     record {
       key = r .key;
       place = r .place;
-      held = record { cell = cell-back (r .place) (r .key) (r .held .estimate) (r .held .cell) (fine-is r h) i; estimate = estimate-back (r .held .estimate) i };
+      held = record { cell = cell-back (r .place) (r .key) (r .held .estimate) (r .held .cell) (entry-cell r h) i; estimate = estimate-back (r .held .estimate) i };
     }
 
 -- Lists of entries and their slots.

@@ -1,27 +1,27 @@
 -- A search of a valid store's slots finds the entry at a key and shifted index, or where it would stand.
 -- Assumes nothing.
 use mathlib.Core.Path.{_≡_, refl, sym, _∙_, ap}
-use mathlib.Core.Bool.{Bool, true, false, cond, not, _&&_}
-use mathlib.Core.List.{List, [], _∷_, _++_, map}
+use mathlib.Core.Bool.{Bool, true, false, _&&_}
+use mathlib.Core.List.{List, [], _∷_, _++_}
 use mathlib.Core.Option.{Option, none, some}
-use Prim.Native.Nat.{ℕ, zero, suc, _+_, _*_, _≤_, _<_}
+use Prim.Native.Nat.{ℕ, zero, suc, _≤_, _<_}
 use native.Mathlib.Omega.{arith}
 use native.Mathlib.Decide.{decLt}
-use lib.Dec.{leb, ltb, eqb, eqb·suc-zero}
-use lib.ListN.{length, getD, take, drop, length-map}
+use lib.Dec.{eqb, eqb·suc-zero}
+use lib.ListN.{length, getD, drop, length-map}
 use lib.Seq.{drop-cons}
 use borrow.Author.Tests.{lt-ltb, le-leb, le-ltb, eq-eqb}
 use Rattle.store.specs.Slots
 use Rattle.store.specs.Slots.{Slot, slotsIn, slotAt, held, isUsed, placeOf, same}
 use Rattle.store.proofs.Place.{slotAt-held, used-test}
 use Rattle.model.specs.Rows.{Row, keep, every, isAt, isAbove, rising, find}
-use Rattle.model.specs.Data.{Cell, write, delta, Entry}
+use Rattle.model.specs.Data.{write, Entry}
 use Rattle.model.proofs.Lists.{and-left, every-kept}
 use Rattle.model.proofs.Rows.{above-not-at}
-use Rattle.model.proofs.Places.{rank, rowAt, rank-le, drop-rank, getD-rank, at-absent}
+use Rattle.model.specs.Rows.{rank, rowAt}
+use Rattle.model.proofs.Places.{rank-le, drop-rank, getD-rank, at-absent}
 use Rattle.versioned_data.specs.Layout.{padded, slotOf, entriesIn, dataValid}
 use Rattle.versioned_data.specs.Found.{foundOf, foundIn, isAmong}
-use Rattle.versioned_data.specs.declared.find.Found.{Found}
 use Rattle.versioned_data.specs.declared.find.Found.the-variants.{There, Absent}
 use Rattle.versioned_data.proofs.Holding.{rising-valid, few-valid, packed-valid, held-valid, place-rank}
 use Rattle.versioned_data.proofs.Edits.{getD-map-lt, place-lt, place-inside}

@@ -17,7 +17,7 @@ use Rattle.model.specs.Data.{Entry}
 use Rattle.model.specs.Fine.{fineEntry, fineEntries}
 use Rattle.model.proofs.Lists.{and-left, and-right, and-both, keep-none, every-imp}
 use Rattle.model.proofs.Rows.{Side, lower, here, upper, side, above-not-below, at-above, above-above}
-use Rattle.model.proofs.Places.{rank}
+use Rattle.model.specs.Rows.{rank}
 use Rattle.versioned_data.specs.Layout.{slotOf, entryOf, entriesIn, holding, sameWords, dataValid}
 use Rattle.versioned_data.proofs.Entries.{slot-below, slots-whole, slots-used, entries-back, slots-ordered}
 

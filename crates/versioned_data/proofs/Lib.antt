@@ -8,6 +8,13 @@ pub mod Bases
 pub mod Putting
 pub mod Operations
 pub mod After
+pub mod Cleared
 pub mod Positions
-pub mod Scan
+pub mod ValidSlots
+pub mod Scanning
 pub mod SlotTest
+pub mod Walks
+pub mod Steps
+pub mod Descent
+pub mod Bounds
+pub mod Shortcuts

@@ -1,9 +1,9 @@
 -- Each operation of the data store: what was found, what was put there, and its rule.
 -- Assumes nothing.
 use mathlib.Core.Path.{_≡_, refl, sym, _∙_, ap}
-use mathlib.Core.Bool.{Bool, true, false, cond, not}
+use mathlib.Core.Bool.{Bool, true, false, not}
 use mathlib.Core.List.{List}
-use mathlib.Core.Option.{Option, none, some}
+use mathlib.Core.Option.{Option, none}
 use Prim.Native.Nat.{ℕ, suc, _+_, _*_, _≤_, _<_}
 use native.Mathlib.Omega.{arith}
 use native.Mathlib.Numerals.{add-one}
@@ -16,7 +16,7 @@ use Rattle.store.proofs.Encode.{held-fits}
 use Rattle.model.specs.Rows.{find, Edit, leave}
 use Rattle.model.specs.Rows
 use Rattle.model.specs.Data.{Entry, Ruling, refuse, accept, done, doneAnswer, write, delta, mayWrite, writeValue, addDelta, markEstimate, remove, setBaseValue}
-use Rattle.model.proofs.Places.{rowAt}
+use Rattle.model.specs.Rows.{rowAt}
 use Rattle.versioned_data.specs.Layout.{slotOf, entriesIn, dataValid}
 use Rattle.versioned_data.specs.Found.{foundIn, isAmong, mayPut, Put}
 use Rattle.versioned_data.specs.Base.{baseAt, baseRuling}

@@ -1,18 +1,18 @@
 -- A slot is built for an entry and put where the entry was looked for.
 -- Assumes nothing.
-use mathlib.Core.Path.{_≡_, refl, sym, _∙_, ap, ap₂}
-use mathlib.Core.Bool.{Bool, true, false, cond, not}
-use mathlib.Core.List.{List, [], _∷_, _++_, append-assoc}
-use mathlib.Core.Option.{Option, none, some}
-use Prim.Native.Nat.{ℕ, zero, suc, _+_, _-_, _*_, _≤_, _<_}
+use mathlib.Core.Path.{_≡_, sym, _∙_, ap, ap₂}
+use mathlib.Core.Bool.{true, false}
+use mathlib.Core.List.{List, _∷_, _++_}
+use mathlib.Core.Option.{none}
+use Prim.Native.Nat.{ℕ, suc, _+_, _-_, _*_, _≤_, _<_}
 use native.Mathlib.Omega.{arith}
-use lib.Dec.{leb, ltb, eqb}
+use lib.Dec.{ltb}
 use lib.ListN.{length, getD, take, drop, replicate, length-drop}
 use lib.Seq.{length-take-le}
 use borrow.Author.Tests.{ltb-true, leb-true, lt-ltb, le-ltb, ne-eqb}
 use Rattle.number.specs.Words.{AreWords}
 use Rattle.number.proofs.Digits.{words-take, words-drop}
-use Rattle.delta.specs.Delta.{deltaAt, deltaWords, deltaOk}
+use Rattle.delta.specs.Delta.{deltaAt, deltaOk}
 use Rattle.delta.proofs.Format.{deltaWords-deltaAt}
 use Rattle.types.specs.Value.{valueAt, valueWidth}
 use Rattle.types.specs.ValueWithLayout.{valueOf, wordsOf}
@@ -22,14 +22,14 @@ use Rattle.store.specs.Slots.{Slot, slotWidth, slotsIn, held, opened, written}
 use Rattle.store.proofs.Encode.{held-fits}
 use Rattle.store.proofs.Words.{slots-few, slot-inside}
 use Rattle.model.specs.Data.{write, delta, done}
-use Rattle.model.proofs.Places.{rowAt}
+use Rattle.model.specs.Rows.{rowAt}
 use Rattle.versioned_data.specs.Layout.{padded, formOf, flagOf, bodyOf, slotOf}
 use Rattle.versioned_data.specs.Found.{isAmong, putResult, putWords, Put, mayPut}
 use Rattle.versioned_data.specs.Base.{overBase, baseAt}
 use Rattle.versioned_data.specs.declared.find.Found.{Found}
 use Rattle.versioned_data.specs.declared.find.Found.the-variants.{There, Absent}
 use Rattle.versioned_data.specs.declared.base.Base.{Base}
-use Rattle.versioned_data.specs.declared.base.Base.the-variants.{Keep, Set, Differs}
+use Rattle.versioned_data.specs.declared.base.Base.the-variants.{Set}
 
 -- The words of a write's slot, with zeros after them.
 write-padded : (k p i : ℕ) (v : List ℕ) → length v ≡ valueWidth → padded (1 ∷ k ∷ p ∷ 0 ∷ 0 ∷ 0 ∷ i ∷ v) ≡ 1 ∷ k ∷ p ∷ 0 ∷ 0 ∷ 0 ∷ i ∷ (v ++ replicate (25 - valueWidth) 0)

@@ -2,19 +2,20 @@
 -- Assumes nothing.
 use mathlib.Core.Path.{_≡_, refl, sym, _∙_, ap}
 use mathlib.Core.Bool.{Bool, true, false, cond}
-use mathlib.Core.List.{List, [], _∷_, _++_}
+use mathlib.Core.List.{List}
 use mathlib.Core.Option.{Option, none, some}
-use Prim.Native.Nat.{ℕ, zero, suc, _+_, _-_, _*_, _≤_, _<_}
+use Prim.Native.Nat.{ℕ, suc, _+_, _*_, _<_}
 use native.Mathlib.Omega.{arith}
-use lib.Dec.{leb, ltb, eqb}
+use lib.Dec.{leb, ltb}
 use lib.ListN.{length, set, length-set}
-use borrow.Author.Tests.{le-leb, lt-ltb, ltb-true}
+use borrow.Author.Tests.{le-leb, ltb-true}
 use Rattle.store.specs.Slots.{Slot, slotWidth, slotsIn, held, opened, closed, written, inserted, removed}
 use Rattle.store.proofs.Edits.{length-inserted, length-removed}
-use Rattle.model.specs.Rows.{Row, find, put, erase, Edit, leave, clear, edited}
+use Rattle.model.specs.Rows.{find, put, erase, Edit, leave, clear, edited}
 use Rattle.model.specs.Rows
-use Rattle.model.specs.Data.{Cell, Entry, Ruling, refuse, accept, doneAnswer, markEstimate, remove}
-use Rattle.model.proofs.Places.{rank, rowAt, rank-le, put-absent, put-present, erase-present}
+use Rattle.model.specs.Data.{Entry, Ruling, refuse, accept, doneAnswer, markEstimate, remove}
+use Rattle.model.specs.Rows.{rank, rowAt}
+use Rattle.model.proofs.Places.{rank-le, put-absent, put-present, erase-present}
 use Rattle.versioned_data.specs.Layout.{slotOf, entriesIn, holding, dataValid, fitsIn, resultOf, wordsAfter}
 use Rattle.versioned_data.specs.Found.{foundOf, foundIn, putResult, putWords, Put}
 use Rattle.versioned_data.specs.Edited.{Edited}
@@ -30,12 +31,12 @@ module _ (s : List ℕ) (k p : ℕ) (answer : List ℕ) (e : Edit Entry) (b : Bo
   unfolding resultOf
   result-fits = rw h
 
-  words-fit : wordsAfter s k p (accept answer e) ≡ cond b (holding s (edited k p e (entriesIn s))) s
+  pub words-fit : wordsAfter s k p (accept answer e) ≡ cond b (holding s (edited k p e (entriesIn s))) s
   unfolding wordsAfter
   words-fit = rw h
 
 module _ (s : List ℕ) (v : dataValid s ≡ true) (k p : ℕ) where
-  fits-leave : fitsIn s (edited k p leave (entriesIn s)) ≡ true
+  pub fits-leave : fitsIn s (edited k p leave (entriesIn s)) ≡ true
   unfolding fitsIn edited
   fits-leave = le-leb (length (entriesIn s)) (slotsIn (length s)) (few-valid s v)
 
@@ -50,7 +51,7 @@ module _ (s : List ℕ) (v : dataValid s ≡ true) (k p : ℕ) where
       ap (λ (m : ℕ). leb m (slotsIn (length s))) n
 
   module _ (b : Entry) (e : find k p (entriesIn s) ≡ some b) where
-    fits-present : (a : Entry) → fitsIn s (edited k p (Rows.set a) (entriesIn s)) ≡ true
+    pub fits-present : (a : Entry) → fitsIn s (edited k p (Rows.set a) (entriesIn s)) ≡ true
     unfolding fitsIn edited
     fits-present a =
         le-leb (length (put k p a (entriesIn s))) (slotsIn (length s))

@@ -23,21 +23,9 @@ use Rattle.model.specs.Data.{Cell, write, delta, Entry}
 use Rattle.model.specs.Fine.{isWord, isNumber, fineValue, fineDelta, fineShortcut, fineCell, fineEntry}
 use Rattle.model.proofs.Lists.{and-left, and-right, and-both}
 use Rattle.versioned_data.specs.Layout.{padded, formOf, flagOf, bodyOf, slotOf, cellOf, entryOf, sameWords, slotOk, bodyTest, slotTest}
-use Rattle.versioned_data.proofs.Entries.{fine-value, fine-delta, fine-is, value-length, value-in, delta-words-length}
+use Rattle.model.proofs.Walk.{words-every, value-length, value-ok, write-value, write-side, delta-place, delta-delta, entry-cell}
+use Rattle.versioned_data.proofs.Entries.{value-in, delta-words-length}
 use Rattle.versioned_data.proofs.Holding.{same-words, words-same}
-
--- What a fine cell says.
-value-ok : (v : List ℕ) → fineValue v ≡ true → valueOk v ≡ true
-unfolding fineValue
-value-ok v h = and-right (eqb (length v) valueWidth && every isWord v) (valueOk v) h
-
-fine-rule : (place : ℕ) (q : Bool) (i : ℕ) (v : List ℕ) → fineCell place q (write i v) ≡ true → cond (eqb place 0) (eqb i 0 && not q) (isExchanged v) ≡ true
-unfolding fineCell
-fine-rule place q i v h = and-right (isWord i && fineValue v) (cond (eqb place 0) (eqb i 0 && not q) (isExchanged v)) h
-
-fine-above : (place : ℕ) (q : Bool) (d : Delta) (n : Option ℕ) → fineCell place q (delta d n) ≡ true → not (eqb place 0) ≡ true
-unfolding fineCell
-fine-above place q d n h = and-left (not (eqb place 0)) (fineDelta d) (and-left (not (eqb place 0) && fineDelta d) (fineShortcut n) h)
 
 delta-ok-in : (d : Delta) (ys : List ℕ) → fineDelta d ≡ true → deltaOk (take 17 (deltaWords d ++ ys)) ≡ true
 unfolding fineDelta isNumber
@@ -49,12 +37,6 @@ delta-ok-in d ys h =
 -- A slot's six head words, and the rest.
 abbrev slot : ℕ → ℕ → ℕ → ℕ → ℕ → ℕ → List ℕ → Slot
 slot a b c d e f rest = a ∷ b ∷ c ∷ d ∷ e ∷ f ∷ rest
-
--- words in range
-words-every : (ws : List ℕ) → AreWords ws → every isWord ws ≡ true
-unfolding every isWord
-words-every [] h = refl
-words-every (w ∷ ws) h = and-both (ltb w (2 ^ 32)) (every isWord ws) (lt-ltb w (2 ^ 32) (h 0)) (words-every ws (λ i. h (suc i)))
 
 flag-word : (f : ℕ) → f ≤ 1 → flagOf (eqb f 1) ≡ f
 unfolding flagOf
@@ -255,23 +237,23 @@ module _ (place : ℕ) (q : Bool) where
   body-passes key (write i v) h =
       and-both (valueOk (take 7 (v ++ zs)) && cond (eqb place 0) (eqb i 0 && eqb (flagOf q) 0) (isExchanged (take 7 (v ++ zs)))) (allZero (drop 7 (v ++ zs)))
       (rw (value-in place q zs i v h)
-      (and-both (valueOk v) (cond (eqb place 0) (eqb i 0 && eqb (flagOf q) 0) (isExchanged v)) (value-ok v (fine-value place q i v h))
-      (base-kept place i q (isExchanged v) (fine-rule place q i v h))))
-      (zeros-drop 7 v (slotWidth - suc (suc (suc (suc (suc (suc (length (i ∷ v)))))))) (value-length v (fine-value place q i v h)))
+      (and-both (valueOk v) (cond (eqb place 0) (eqb i 0 && eqb (flagOf q) 0) (isExchanged v)) (value-ok v (write-value place q i v h))
+      (base-kept place i q (isExchanged v) (write-side place q i v h))))
+      (zeros-drop 7 v (slotWidth - suc (suc (suc (suc (suc (suc (length (i ∷ v)))))))) (value-length v (write-value place q i v h)))
     where
       zs : List ℕ
       zs = replicate (slotWidth - suc (suc (suc (suc (suc (suc (length (i ∷ v)))))))) 0
   body-passes key (delta d none) h =
       and-both (not (eqb place 0) && deltaOk (take 17 (deltaWords d ++ zs))) (allZero (drop 17 (deltaWords d ++ zs)))
-      (and-both (not (eqb place 0)) (deltaOk (take 17 (deltaWords d ++ zs))) (fine-above place q d none h) (delta-ok-in d zs (fine-delta place q d none h)))
+      (and-both (not (eqb place 0)) (deltaOk (take 17 (deltaWords d ++ zs))) (delta-place place q d none h) (delta-ok-in d zs (delta-delta place q d none h)))
       (zeros-drop 17 (deltaWords d) (slotWidth - suc (suc (suc (suc (suc (suc (length (deltaWords d)))))))) (delta-words-length d))
     where
       zs : List ℕ
       zs = replicate (slotWidth - suc (suc (suc (suc (suc (suc (length (deltaWords d)))))))) 0
   body-passes key (delta d (some n)) h =
       and-both (not (eqb place 0) && deltaOk (take 17 (deltaWords d ++ digits 4 n ++ zs))) (allZero (drop 21 (deltaWords d ++ digits 4 n ++ zs)))
-      (and-both (not (eqb place 0)) (deltaOk (take 17 (deltaWords d ++ digits 4 n ++ zs))) (fine-above place q d (some n) h)
-      (ap (λ (l : List ℕ). deltaOk (take 17 l)) (append-assoc (deltaWords d) (digits 4 n) zs) ∙ delta-ok-in d (digits 4 n ++ zs) (fine-delta place q d (some n) h)))
+      (and-both (not (eqb place 0)) (deltaOk (take 17 (deltaWords d ++ digits 4 n ++ zs))) (delta-place place q d (some n) h)
+      (ap (λ (l : List ℕ). deltaOk (take 17 l)) (append-assoc (deltaWords d) (digits 4 n) zs) ∙ delta-ok-in d (digits 4 n ++ zs) (delta-delta place q d (some n) h)))
       (zeros-drop 21 (deltaWords d ++ digits 4 n) (slotWidth - suc (suc (suc (suc (suc (suc (length (deltaWords d ++ digits 4 n))))))))
       (omega (arith, length-append (deltaWords d) (digits 4 n), delta-words-length d, length-digits 4 n)))
     where
@@ -289,7 +271,7 @@ unfolding slotTest slotOf padded
 slot-tests r h =
     and-both (leb (formOf (r .held .cell)) 2 && leb (flagOf (r .held .estimate)) 1) (bodyTest (formOf (r .held .cell)) (slotOf r))
     (and-both (leb (formOf (r .held .cell)) 2) (leb (flagOf (r .held .estimate)) 1) (form-small (r .held .cell)) (flag-small (r .held .estimate)))
-    (body-passes (r .place) (r .held .estimate) (r .key) (r .held .cell) (fine-is r h))
+    (body-passes (r .place) (r .held .estimate) (r .key) (r .held .cell) (entry-cell r h))
 
 shape : (u : Slot) → length u ≡ 32 → AreWords u → slotTest u ≡ true → slotOk u ≡ true
 shape [] l w t = absurd (let z : _≡_ {A = ℕ} 0 32 = l in omega arith)

@@ -1,5 +1,5 @@
 -- What a base value does to what was found at shifted index 0, as the code learns it, and the ruling that this is (`setBaseValue` of `model`).
-use mathlib.Core.Bool.{Bool, true, false, cond}
+use mathlib.Core.Bool.{Bool, cond}
 use mathlib.Core.List.{List}
 use Prim.Native.Nat.{ℕ, _+_, _*_}
 use Rattle.types.specs.Value.{valueAt, isExchanged}

@@ -1,6 +1,6 @@
 -- Where an entry stands among those of a store, as the code learns it, and what a slot put there comes to.
 use mathlib.Core.Path.{_≡_}
-use mathlib.Core.Bool.{Bool, true, false, cond}
+use mathlib.Core.Bool.{Bool, true, cond}
 use mathlib.Core.List.{List}
 use mathlib.Core.Option.{Option, none, some}
 use Prim.Native.Nat.{ℕ, _+_, _*_}
@@ -9,7 +9,7 @@ use lib.ListN.{length, getD}
 use Rattle.store.specs.Slots.{Slot, slotWidth, slotsIn, held, opened, written}
 use Rattle.model.specs.Rows.{find}
 use Rattle.model.specs.Data.{Entry}
-use Rattle.model.proofs.Places.{rank}
+use Rattle.model.specs.Rows.{rank}
 use Rattle.versioned_data.specs.Layout.{entriesIn}
 use Rattle.versioned_data.specs.declared.find.Found.{Found}
 use Rattle.versioned_data.specs.declared.find.Found.the-variants.{There, Absent}

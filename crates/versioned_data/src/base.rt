@@ -63,6 +63,7 @@ fn same_exchanged(v: ValueWithLayout, w: ValueWithLayout) -> bool
     same_bytes(v, w)
 }
 
+// Exchanged holds more than raw: it replaces raw, and raw does nothing to it.
 pub fn over_base(value: ValueWithLayout, existing: ValueWithLayout) -> Base
     ensures base { λ r. ⌜ r ≡ overBase (wordsOf value) (wordsOf existing) ⌝ }
 {

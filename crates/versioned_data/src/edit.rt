@@ -9,7 +9,7 @@ ghost use Rattle.types.specs.Index.{wordOf};
 ghost use Rattle.types.specs.Value.{valueAt, valueWidth};
 ghost use Rattle.store.specs.Slots.{held, packed};
 ghost use Rattle.model.specs.Data as rule;
-ghost use Rattle.model.proofs.Places.{rowAt};
+ghost use Rattle.model.specs.Rows.{rowAt};
 ghost use Rattle.versioned_data.specs.Layout.{slotOf, dataValid};
 ghost use Rattle.versioned_data.specs.Found.{isAmong, mayPut, Put};
 ghost use Rattle.versioned_data.specs.Base.{baseAt};
@@ -136,6 +136,7 @@ fn base_at(s: &[u32], found: Found, t: &[u32], at: usize) -> Base
     }
 }
 
+// A delta always replaces what is there.
 pub fn add_delta(s: &mut [u32], key: u32, txn_idx: TxnIndex, t: &[u32], at: usize) -> u32
     requires valid { ⌜ dataValid (now s) ≡ true ⌝ }
     requires served { ⌜ «txn_idx» < 4294967295 ⌝ }
@@ -209,6 +210,7 @@ pub fn set_base_value(s: &mut [u32], key: u32, t: &[u32], at: usize) -> u32
     }
 }
 
+// Versioned write of data at a given key (and version). 7 stands for the Rust's panic at an incarnation that is not higher.
 pub fn write(
     s: &mut [u32],
     key: u32,

@@ -19,7 +19,24 @@ pub const VALUE: usize = 7;
 // A delta has its words here.
 pub const DELTA: usize = 6;
 
-// The forms: a write, and a delta without a shortcut.
+// A delta with a shortcut has the shortcut's words here.
+pub const SHORTCUT: usize = 23;
+
+// The forms: a write, a delta without a shortcut, and one with it.
 pub const WRITE: u32 = 0;
 
 pub const DELTA_ALONE: u32 = 1;
+
+pub const DELTA_WITH_SHORTCUT: u32 = 2;
+
+// The words from here on are zero: after a write's value, after a delta alone, and after a shortcut.
+pub const AFTER_VALUE: usize = 14;
+
+pub const AFTER_DELTA: usize = 23;
+
+pub const AFTER_SHORTCUT: usize = 27;
+
+// The greatest form, a delta with a shortcut, and the greatest flag.
+pub const LAST_FORM: u32 = 2;
+
+pub const LAST_FLAG: u32 = 1;

@@ -1,5 +1,9 @@
 // versioned_data.rs over slots in lent words: kinds 1 to 7.
 pub mod base;
 pub mod edit;
+pub mod fetch;
 pub mod find;
 mod layout;
+pub mod materialize;
+pub mod scan;
+pub mod walk;

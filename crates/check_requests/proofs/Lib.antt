@@ -1,0 +1,5 @@
+mod Words
+mod Lines
+mod Moves
+mod Finds
+mod States

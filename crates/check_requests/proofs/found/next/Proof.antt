@@ -1,0 +1,80 @@
+use lib.ListN.{length-take}
+use Rattle.check_requests.proofs.Finds.{found-short, found-many, found-cut, found-request}
+use native.Mathlib.Omega.{arith}
+use borrow.Author.Needs.{needs}
+use Rattle.check_requests.proofs.found.next.Statement.{statement}
+use Rattle.check_requests.proofs.found.next.Tie as tie
+use Rattle.check_requests.proofs.found.next.Reads as reads
+use Rattle.check_requests.proofs.found.next.Lts as lts
+use Rattle.check_requests.proofs.found.number_of.Reads as number-of-reads
+use Rattle.check_requests.proofs.word.load.Reads as load-reads
+use Rattle.check_requests.proofs.word.word_at.Reads as word-at-reads
+use Rattle.request.proofs.check.Reads as check-reads
+
+returns : tie.Need-returns
+returns c = found-short (c .before .before .before .args .b .now) (c .if1 .taken)
+
+word-at-requires : tie.Need-word-at-requires
+word-at-requires c κs = search needs
+
+returns-2 : tie.Need-returns-2
+returns-2 c = found-many (c .before .before .before .before .before .args .b .now) _ (c .before .word-at .ensures) (c .before .before .if1 .left) (c .if2 .taken)
+
+cast-n : tie.Need-cast-n
+cast-n c = search needs
+
+add-n : tie.Need-add-n
+add-n c = search needs
+
+mul-if3 : tie.Need-mul-if3
+mul-if3 c = search needs
+
+returns-3 : tie.Need-returns-3
+returns-3 c =
+    found-cut (c .before .before .before .before .before .before .args .b .now) _ (c .before .before .word-at .ensures) (c .before .before .before .if1 .left) (c .before .if2 .left) (c .if3 .taken)
+
+load-requires : tie.Need-load-requires
+load-requires c κs = search needs
+
+slice-reshare-prefix-check : tie.Need-slice-reshare-prefix-check
+slice-reshare-prefix-check c = search needs
+
+slice-aggregate-check : tie.Need-slice-aggregate-check
+slice-aggregate-check c = simp length-take (omega arith)
+
+check-requires : tie.Need-check-requires
+check-requires c κs = search needs
+
+number-of-requires : tie.Need-number-of-requires
+number-of-requires c κs = search needs
+
+mul-t6 : tie.Need-mul-t6
+mul-t6 c = search needs
+
+same-length : tie.Need-same-length
+same-length c = search needs
+
+returns-4 : tie.Need-returns-4
+returns-4 c =
+    found-request (c .before .before .before .before .before .before .before .before .before .before .before .before .before .args .b .now) _ (c .before .before .before .before .before .before .before .before .before .word-at .ensures) (c .before .before .before .before .before .before .before .before .before .before .if1 .left) (c .before .before .before .before .before .before .before .before .if2 .left) (c .before .before .before .before .before .before .before .if3 .left)
+    (c .before .before .before .before .before .before .before .before .before .before .before .before .before .args .words .now) (c .before .before .before .before .before .load .last .1 .0) (c .before .before .before .before .before .load .ensures) _ (c .before .check .ensures) _ (c .number-of .ensures)
+
+pub next-spec : {M : Type 1} → statement M
+next-spec =
+    tie.close
+    (tie.spec
+    returns
+    word-at-requires
+    returns-2
+    cast-n
+    add-n
+    mul-if3
+    returns-3
+    load-requires
+    slice-reshare-prefix-check
+    slice-aggregate-check
+    check-requires
+    number-of-requires
+    mul-t6
+    same-length
+    returns-4)

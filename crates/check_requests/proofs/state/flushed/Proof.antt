@@ -1,0 +1,28 @@
+use mathlib.Core.Path.{sym}
+use lib.Seq.{length-take-le}
+use native.Mathlib.Omega.{arith}
+use borrow.Author.Needs.{needs}
+use Rattle.check_requests.proofs.state.flushed.Statement.{statement}
+use Rattle.check_requests.proofs.state.flushed.Tie as tie
+use Rattle.check_requests.proofs.state.flushed.Reads as reads
+use Rattle.check_requests.proofs.state.flushed.Lts as lts
+use Rattle.io.proofs.write_all.Reads as write-all-reads
+
+sub-if1 : tie.Need-sub-if1
+sub-if1 c = search needs
+
+returns : tie.Need-returns
+returns c = search needs
+
+slice-aggregate-write-all : tie.Need-slice-aggregate-write-all
+slice-aggregate-write-all c = sym (length-take-le _ _ (c .before .before .before .pre .0))
+
+write-all-requires : tie.Need-write-all-requires
+write-all-requires c κs = search needs
+
+returns-2 : tie.Need-returns-2
+returns-2 c = search needs
+
+pub flushed-spec : {M : Type 1} → statement M
+flushed-spec =
+    tie.close (tie.spec sub-if1 returns slice-aggregate-write-all write-all-requires returns-2)

@@ -1,0 +1,205 @@
+-- The scan of a store: what it finds in a slot, word by word, is rule 5 of that slot, and so of the store.
+-- Assumes nothing.
+use mathlib.Core.Path.{_≡_, refl, sym, _∙_, ap}
+use mathlib.Core.Bool.{Bool, true, false, cond, not, _&&_}
+use mathlib.Core.List.{List}
+use Prim.Native.Nat.{ℕ, zero, suc, _+_, _-_, _*_, _≤_, _<_}
+use native.Mathlib.Omega.{arith}
+use lib.Dec.{leb, eqb}
+use lib.ListN.{length, getD, take, drop}
+use lib.Seq.{drop-drop}
+use borrow.Author.Tests.{eq-eqb, ne-eqb, le-leb, lt-leb, not-true, not-false}
+use Rattle.number.specs.Words.{AreWords}
+use Rattle.number.proofs.Digits.{words-take, words-drop}
+use Rattle.delta.specs.Delta.{deltaOk}
+use Rattle.types.specs.Value.{valueAt, valueOk, isExchanged}
+use Rattle.store.specs.Slots
+use Rattle.store.specs.Slots.{Slot, slotWidth, slotsIn, slotAt, held, packed, neighbours, isBefore, isZeroFrom, allZero, sound}
+use Rattle.store.proofs.Lists.{and-assoc, and-swap}
+use Rattle.store.proofs.Order.{ordered-is-neighbours}
+use Rattle.store.proofs.Words.{slot-inside, slotAt-word, length-slotAt}
+use Rattle.versioned_data.specs.Layout.{dataValid, slotOk, bodyTest, slotTest}
+use Rattle.versioned_data.proofs.ValidSlots.{valid-slots}
+use Rattle.versioned_data.proofs.SlotTest.{slotOk-test}
+use Rattle.versioned_data.proofs.Positions.{drop-take, slotAt-part}
+
+-- the order of all slots is that of neighbours, so rule 5 is what a scan decides
+pub valid-sound : (s : List ℕ) → dataValid s ≡ sound slotOk isBefore s
+unfolding packed sound
+valid-sound s =
+    valid-slots s ∙ ap (λ (b : Bool). isZeroFrom (length (held s)) s && b && Slots.every slotOk (held s)) (ordered-is-neighbours (held s))
+    ∙ and-assoc (isZeroFrom (length (held s)) s) (neighbours isBefore (held s)) (Slots.every slotOk (held s))
+    ∙ ap (λ (b : Bool). isZeroFrom (length (held s)) s && b) (and-swap (neighbours isBefore (held s)) (Slots.every slotOk (held s)))
+
+-- the first test that fails settles a conjunction, and the last one decides it
+and-no : (a b : Bool) → a ≡ false → false ≡ (a && b)
+and-no a b e = rw e
+
+and-last : (a b r : Bool) → a ≡ true → r ≡ b → r ≡ (a && b)
+and-last a b r e f = rw e f
+
+three-first : (a b c : Bool) → a ≡ false → false ≡ (a && b && c)
+three-first a b c e = rw e
+
+three-second : (a b c : Bool) → a ≡ true → b ≡ false → false ≡ (a && b && c)
+three-second a b c e f = rw (e, f)
+
+three-last : (a b c r : Bool) → a ≡ true → b ≡ true → r ≡ c → r ≡ (a && b && c)
+three-last a b c r e f g = rw (e, f) g
+
+-- ---- a slot's words
+
+module _ (s : List ℕ) (i : ℕ) where
+  word-is : (j x : ℕ) → j < slotWidth → x ≡ getD s (slotWidth * i + j) 0 → getD (slotAt i s) j 0 ≡ x
+  word-is j x h e = slotAt-word i j s h ∙ sym e
+
+  -- the words of a slot from one on
+  pub rest-is : (j : ℕ) (r : Bool) → j ≤ slotWidth → r ≡ allZero (take (slotWidth * i + slotWidth - (slotWidth * i + j)) (drop (slotWidth * i + j) s)) → r ≡ allZero (drop j (slotAt i s))
+  unfolding slotAt
+  rest-is j r h e =
+      let n : slotWidth * i + slotWidth - (slotWidth * i + j) ≡ slotWidth - j = omega arith in
+      e ∙ rw (n, drop-take j slotWidth (drop (slotWidth * i) s) h, drop-drop j (slotWidth * i) s)
+
+  -- ---- the head
+
+  abbrev head : Bool
+  head = eqb (getD (slotAt i s) 0 0) 1 && eqb (getD (slotAt i s) 3 0) 0 && leb (getD (slotAt i s) 4 0) 2 && leb (getD (slotAt i s) 5 0) 1
+
+  module _ (a : ℕ) (ea : a ≡ getD s (slotWidth * i + 0) 0) where
+    pub head-unused : (a ≡ 1 → ⊥) → false ≡ head
+    head-unused h = rw (word-is 0 a (omega arith) ea, ne-eqb a 1 h)
+
+    module _ (ha : a ≡ 1) (d : ℕ) (ed : d ≡ getD s (slotWidth * i + 3) 0) where
+      used : eqb (getD (slotAt i s) 0 0) 1 ≡ true
+      used = rw (word-is 0 a (omega arith) ea) (eq-eqb a 1 ha)
+
+      pub head-third : (d ≡ 0 → ⊥) → false ≡ head
+      head-third h = rw (used, word-is 3 d (omega arith) ed, ne-eqb d 0 h)
+
+      module _ (hd : d ≡ 0) (e : ℕ) (ee : e ≡ getD s (slotWidth * i + 4) 0) where
+        third : eqb (getD (slotAt i s) 3 0) 0 ≡ true
+        third = rw (word-is 3 d (omega arith) ed) (eq-eqb d 0 hd)
+
+        pub head-form : 2 < e → false ≡ head
+        head-form h = rw (used, third, word-is 4 e (omega arith) ee, lt-leb e 2 h)
+
+        pub head-flag : e ≤ 2 → (f : ℕ) → f ≡ getD s (slotWidth * i + 5) 0 → leb f 1 ≡ head
+        head-flag h f ef = rw (used, third, word-is 4 e (omega arith) ee, le-leb e 2 h, word-is 5 f (omega arith) ef)
+
+  -- ---- a write
+
+  -- what its place allows, for a value that is exchanged or not
+  abbrev placed : Bool → Bool
+  placed x = cond (eqb (getD (slotAt i s) 2 0) 0) (eqb (getD (slotAt i s) 6 0) 0 && eqb (getD (slotAt i s) 5 0) 0) x
+
+  module _ (p : ℕ) (ep : p ≡ getD s (slotWidth * i + 2) 0) (x : Bool) where
+    pub placed-above : (p ≡ 0 → ⊥) → (r : Bool) → r ≡ x → r ≡ placed x
+    placed-above h r e = rw (word-is 2 p (omega arith) ep, ne-eqb p 0 h) e
+
+    module _ (h : p ≡ 0) (n : ℕ) (en : n ≡ getD s (slotWidth * i + 6) 0) where
+      base : eqb (getD (slotAt i s) 2 0) 0 ≡ true
+      base = rw (word-is 2 p (omega arith) ep) (eq-eqb p 0 h)
+
+      pub placed-again : (n ≡ 0 → ⊥) → false ≡ placed x
+      placed-again k = rw (base, word-is 6 n (omega arith) en, ne-eqb n 0 k)
+
+      pub placed-base : n ≡ 0 → (f : ℕ) → f ≡ getD s (slotWidth * i + 5) 0 → eqb f 0 ≡ placed x
+      placed-base k f ef = rw (base, word-is 6 n (omega arith) en, eq-eqb n 0 k, word-is 5 f (omega arith) ef)
+
+  module _ (v : List ℕ) (ev : v ≡ valueAt (slotWidth * i + 7) s) (o : Bool) (eo : o ≡ valueOk v) where
+    value-there : valueAt 7 (slotAt i s) ≡ v
+    unfolding valueAt
+    value-there = slotAt-part i 7 7 s (omega arith) ∙ sym ev
+
+    value-told : valueOk (valueAt 7 (slotAt i s)) ≡ o
+    value-told = ap valueOk value-there ∙ sym eo
+
+    pub write-value : not o ≡ true → false ≡ bodyTest 0 (slotAt i s)
+    unfolding bodyTest
+    write-value h =
+        three-first (valueOk (valueAt 7 (slotAt i s))) (placed (isExchanged (valueAt 7 (slotAt i s)))) (allZero (drop 14 (slotAt i s)))
+        (value-told ∙ not-true o h)
+
+    module _ (ho : not o ≡ false) (p : Bool) (ep : p ≡ placed (isExchanged v)) where
+      placed-told : placed (isExchanged (valueAt 7 (slotAt i s))) ≡ p
+      placed-told = ap (λ (l : List ℕ). placed (isExchanged l)) value-there ∙ sym ep
+
+      pub write-place : not p ≡ true → false ≡ bodyTest 0 (slotAt i s)
+      unfolding bodyTest
+      write-place h =
+          three-second (valueOk (valueAt 7 (slotAt i s))) (placed (isExchanged (valueAt 7 (slotAt i s)))) (allZero (drop 14 (slotAt i s)))
+          (value-told ∙ not-false o ho) (placed-told ∙ not-true p h)
+
+      pub write-rest : not p ≡ false → (r : Bool) → r ≡ allZero (drop 14 (slotAt i s)) → r ≡ bodyTest 0 (slotAt i s)
+      unfolding bodyTest
+      write-rest h r e =
+          three-last (valueOk (valueAt 7 (slotAt i s))) (placed (isExchanged (valueAt 7 (slotAt i s)))) (allZero (drop 14 (slotAt i s))) r
+          (value-told ∙ not-false o ho) (placed-told ∙ not-false p h) e
+
+  -- ---- a delta
+
+  abbrev deltaFrom : ℕ → Bool
+  deltaFrom j = not (eqb (getD (slotAt i s) 2 0) 0) && deltaOk (take 17 (drop 6 (slotAt i s))) && allZero (drop j (slotAt i s))
+
+  module _ (j p : ℕ) (ep : p ≡ getD s (slotWidth * i + 2) 0) where
+    pub delta-base : p ≡ 0 → false ≡ deltaFrom j
+    delta-base h = rw (word-is 2 p (omega arith) ep, eq-eqb p 0 h)
+
+    module _ (h : p ≡ 0 → ⊥) (o : Bool) (eo : o ≡ deltaOk (take 17 (drop (slotWidth * i + 6) s))) where
+      above : not (eqb (getD (slotAt i s) 2 0) 0) ≡ true
+      above = rw (word-is 2 p (omega arith) ep, ne-eqb p 0 h)
+
+      delta-told : deltaOk (take 17 (drop 6 (slotAt i s))) ≡ o
+      delta-told = ap deltaOk (slotAt-part i 6 17 s (omega arith)) ∙ sym eo
+
+      pub delta-words : not o ≡ true → false ≡ deltaFrom j
+      delta-words k =
+          three-second (not (eqb (getD (slotAt i s) 2 0) 0)) (deltaOk (take 17 (drop 6 (slotAt i s)))) (allZero (drop j (slotAt i s))) above
+          (delta-told ∙ not-true o k)
+
+      pub delta-rest : not o ≡ false → (r : Bool) → r ≡ allZero (drop j (slotAt i s)) → r ≡ deltaFrom j
+      delta-rest k r e =
+          three-last (not (eqb (getD (slotAt i s) 2 0) 0)) (deltaOk (take 17 (drop 6 (slotAt i s)))) (allZero (drop j (slotAt i s))) r above
+          (delta-told ∙ not-false o k) e
+
+  -- ---- what stands after the head, by its form
+
+  module _ (n : ℕ) (en : n ≡ getD s (slotWidth * i + 4) 0) (r : Bool) where
+    by-form : r ≡ bodyTest n (slotAt i s) → r ≡ bodyTest (getD (slotAt i s) 4 0) (slotAt i s)
+    by-form e = rw (word-is 4 n (omega arith) en) e
+
+    pub body-write : n ≡ 0 → r ≡ bodyTest 0 (slotAt i s) → r ≡ bodyTest (getD (slotAt i s) 4 0) (slotAt i s)
+    body-write h e = by-form (rw h e)
+
+    pub body-delta : n ≡ 1 → r ≡ deltaFrom 23 → r ≡ bodyTest (getD (slotAt i s) 4 0) (slotAt i s)
+    unfolding bodyTest
+    body-delta h e = by-form (rw h e)
+
+    pub body-shortcut : (n ≡ 0 → ⊥) → (n ≡ 1 → ⊥) → r ≡ deltaFrom 27 → r ≡ bodyTest (getD (slotAt i s) 4 0) (slotAt i s)
+    unfolding bodyTest
+    body-shortcut h k e = by-form (go n h k)
+      where
+        go : (m : ℕ) → (m ≡ 0 → ⊥) → (m ≡ 1 → ⊥) → r ≡ bodyTest m (slotAt i s)
+        go zero h k = absurd (h refl)
+        go (suc zero) h k = absurd (k refl)
+        go (suc (suc m)) h k = e
+
+  -- ---- a slot
+
+  module _ (w : AreWords s) (inside : i < slotsIn (length s)) (a : Bool) (ea : a ≡ head) where
+    slot-words : AreWords (slotAt i s)
+    unfolding slotAt
+    slot-words = words-take slotWidth (drop (slotWidth * i) s) (words-drop (slotWidth * i) s w)
+
+    by-words : slotOk (slotAt i s) ≡ slotTest (slotAt i s)
+    by-words = slotOk-test (slotAt i s) (length-slotAt i s (slot-inside i (length s) inside)) slot-words
+
+    pub slot-head : not a ≡ true → false ≡ slotOk (slotAt i s)
+    unfolding slotTest
+    slot-head h =
+        and-no head (bodyTest (getD (slotAt i s) 4 0) (slotAt i s)) (sym ea ∙ not-true a h) ∙ sym by-words
+
+    pub slot-body : not a ≡ false → (r : Bool) → r ≡ bodyTest (getD (slotAt i s) 4 0) (slotAt i s) → r ≡ slotOk (slotAt i s)
+    unfolding slotTest
+    slot-body h r e =
+        and-last head (bodyTest (getD (slotAt i s) 4 0) (slotAt i s)) r (sym ea ∙ not-false a h) e ∙ sym by-words

@@ -1,0 +1,63 @@
+-- `versioned_data::walk::at_write` meets its contract.
+-- Assumes nothing.
+use native.Mathlib.Omega.{arith}
+use borrow.Author.Needs.{needs}
+use Rattle.store.proofs.Words.{slot-inside}
+use Rattle.types.proofs.Values.{read-words}
+use Rattle.versioned_data.proofs.Positions.{part-inside}
+use Rattle.versioned_data.proofs.Walks.{write-empty, write-gathered, write-failed}
+use Rattle.versioned_data.proofs.walk.at_write.Statement.{statement}
+use Rattle.versioned_data.proofs.walk.at_write.Tie as tie
+
+word-requires : tie.Need-word-requires
+word-requires c κs = (c .before .pre .0, omega arith)
+
+mul-read : tie.Need-mul-read
+mul-read c = omega (arith, slot-inside _ _ (c .before .before .pre .0))
+
+add-read : tie.Need-add-read
+add-read c = omega (arith, slot-inside _ _ (c .before .before .pre .0))
+
+read-requires : tie.Need-read-requires
+read-requires c κs = part-inside _ 7 7 _ (c .before .before .pre .0) (omega arith)
+
+enum-told : tie.Need-enum-told
+enum-told c = search needs
+
+enum-told-2 : tie.Need-enum-told-2
+enum-told-2 c = search needs
+
+below-deltas-requires : tie.Need-below-deltas-requires
+below-deltas-requires c κs = search needs
+
+enum-told-3 : tie.Need-enum-told-3
+enum-told-3 c = search needs
+
+below-deltas-requires-2 : tie.Need-below-deltas-requires-2
+below-deltas-requires-2 c κs = search needs
+
+returns : tie.Need-returns
+returns c = write-empty _ _ _ _ (c .before .before .before .word .ensures) _ _ (c .enum-told .given .1) (c .before .before .read .ensures)
+
+returns-2 : tie.Need-returns-2
+returns-2 c = write-gathered _ _ _ _ (c .before .before .before .before .word .ensures) _ _ _ _ (c .before .enum-told2 .given .1) (read-words (c .before .before .before .before .before .before .args .s .now) _ _ (λ i. c .before .before .before .before .before .shared-slice-known .given i .fits) (part-inside _ 7 7 _ (c .before .before .before .before .before .before .pre .0) (omega arith)) (c .before .before .before .read .ensures)) (c .below-deltas .ensures)
+
+returns-3 : tie.Need-returns-3
+returns-3 c = write-failed _ _ _ _ (c .before .before .before .before .word .ensures) _ _ _ (c .before .enum-told3 .given .1) (read-words (c .before .before .before .before .before .before .args .s .now) _ _ (λ i. c .before .before .before .before .before .shared-slice-known .given i .fits) (part-inside _ 7 7 _ (c .before .before .before .before .before .before .pre .0) (omega arith)) (c .before .before .before .read .ensures)) (c .below-deltas2 .ensures)
+
+pub at-write-spec : {M : Type 1} → statement M
+at-write-spec =
+    tie.close
+    (tie.spec
+    word-requires
+    mul-read
+    add-read
+    read-requires
+    enum-told
+    enum-told-2
+    below-deltas-requires
+    enum-told-3
+    below-deltas-requires-2
+    returns
+    returns-2
+    returns-3)

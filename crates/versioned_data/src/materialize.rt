@@ -1,0 +1,95 @@
+// What a transaction's delta comes to once the transaction commits: `VersionedData::materialize_delta`.
+use crate::fetch::read_at;
+use crate::find::Found;
+use crate::find::find_entry;
+use crate::layout;
+use delta::DeltaOp;
+use number::Number;
+use number::words;
+use store::edit::set_word;
+use store::slot::word;
+use types::index::ShiftedTxnIndex;
+use types::index::TxnIndex;
+use types::output::MVDataOutput;
+ghost use mathlib.Core.Path.{_≡_};
+ghost use mathlib.Core.Bool.{true};
+ghost use Prim.Native.Nat.{suc, _<_};
+ghost use lib.ListN.{length};
+ghost use Rattle.number.specs.Number.{valueOf};
+ghost use Rattle.types.specs.Index.{wordOf};
+ghost use Rattle.store.specs.Slots.{slotsIn};
+ghost use Rattle.model.specs.Rows.{downFrom};
+ghost use Rattle.model.specs.Data as rule;
+ghost use Rattle.versioned_data.specs.Layout.{entriesIn, dataValid};
+ghost use Rattle.versioned_data.specs.Materialize.{Materializes, shortcutIn};
+
+// The Rust's `Result<u128, DeltaOp>`; where it panics, a refusal by its number.
+pub enum Materialized {
+    Refused(u32),
+    Resolved(Number),
+    Unresolved(DeltaOp),
+}
+
+// Records the value as a base value shortcut in the delta of slot i. A write has none and is left as it is.
+fn record_delta_shortcut(s: &mut [u32], i: usize, n: Number)
+    requires inside { ⌜ i < slotsIn (length (now s)) ⌝ }
+    ensures recorded { λ _. ⌜ now (s .exit) ≡ shortcutIn i (valueOf n) (now (s .entry)) ⌝ }
+{
+    if word(s, i, layout::FORM) == layout::WRITE {
+        return;
+    }
+    set_word(s, i, layout::FORM, layout::DELTA_WITH_SHORTCUT);
+    words::write(s, 32 * i + layout::SHORTCUT, n);
+}
+
+// An entry that is not there is refused by 6, where the Rust panics.
+fn resolve_at(s: &mut [u32], key: u32, at: ShiftedTxnIndex, n: Number) -> Materialized
+    requires valid { ⌜ dataValid (now s) ≡ true ⌝ }
+    ensures recorded { λ r.
+        ⌜ Materializes (now (s .entry)) key (wordOf at) (rule.record-shortcut (valueOf n)) (rule.resolved (valueOf n)) r (now (s .exit)) ⌝ }
+{
+    match find_entry(s, key, at) {
+        Found::Absent(_) => {
+            return Materialized::Refused(6);
+        }
+        Found::There(i) => {
+            record_delta_shortcut(s, i, n);
+            return Materialized::Resolved(n);
+        }
+    }
+}
+
+// +1 makes sure we include the delta from txn_idx.
+pub fn materialize_delta(s: &mut [u32], key: u32, txn_idx: TxnIndex) -> Materialized
+    requires valid { ⌜ dataValid (now s) ≡ true ⌝ }
+    requires served { ⌜ «txn_idx» < 4294967294 ⌝ }
+    ensures materialized { λ r.
+        ⌜ Materializes (now (s .entry)) key (suc «txn_idx») (λ own. rule.materializeDelta own (downFrom key (suc «txn_idx») (entriesIn (now (s .entry))))) (rule.readOf (downFrom key (suc «txn_idx») (entriesIn (now (s .entry))))) r (now (s .exit)) ⌝ }
+{
+    match read_at(s, key, ShiftedTxnIndex::new(txn_idx + 1)) {
+        MVDataOutput::Resolved(n) => {
+            return resolve_at(s, key, ShiftedTxnIndex::new(txn_idx), n);
+        }
+        MVDataOutput::Unresolved(op) => {
+            return Materialized::Unresolved(op);
+        }
+        MVDataOutput::LayoutUnderDelta => {
+            return Materialized::Refused(9);
+        }
+        MVDataOutput::NoNumberUnderDelta => {
+            return Materialized::Refused(10);
+        }
+        MVDataOutput::Versioned(_, _, _) => {
+            return Materialized::Refused(13);
+        }
+        MVDataOutput::Uninitialized => {
+            return Materialized::Refused(13);
+        }
+        MVDataOutput::Dependency(_) => {
+            return Materialized::Refused(13);
+        }
+        MVDataOutput::DeltaApplicationFailure => {
+            return Materialized::Refused(13);
+        }
+    }
+}
