@@ -6,10 +6,6 @@ use borrow.Author.Needs.{needs}
 use native.Mathlib.Omega.{arith}
 use Rattle.check_requests.proofs.run.Statement.{statement}
 use Rattle.check_requests.proofs.run.Tie as tie
-use Rattle.check_requests.proofs.run.Reads as reads
-use Rattle.check_requests.proofs.run.Lts as lts
-use Rattle.check_requests.proofs.turn.Reads as turn-reads
-use Rattle.io.proofs.write_all.Reads as write-all-reads
 
 abbrev Inv-loop : tie.InvT-loop
 Inv-loop bytes₀ words₀ out₀ s₀ turns₀ bytes words out s turns =

@@ -3,11 +3,6 @@ use native.Mathlib.Omega.{arith}
 use borrow.Author.Needs.{needs}
 use Rattle.check_requests.proofs.turn.Statement.{statement}
 use Rattle.check_requests.proofs.turn.Tie as tie
-use Rattle.check_requests.proofs.turn.Reads as reads
-use Rattle.check_requests.proofs.turn.Lts as lts
-use Rattle.check_requests.proofs.state.answered.Reads as answered-reads
-use Rattle.check_requests.proofs.state.filled.Reads as filled-reads
-use Rattle.check_requests.proofs.state.flushed.Reads as flushed-reads
 
 filled-requires : tie.Need-filled-requires
 filled-requires c κs = search needs

@@ -4,12 +4,6 @@ use native.Mathlib.Omega.{arith}
 use borrow.Author.Needs.{needs}
 use Rattle.check_requests.proofs.found.next.Statement.{statement}
 use Rattle.check_requests.proofs.found.next.Tie as tie
-use Rattle.check_requests.proofs.found.next.Reads as reads
-use Rattle.check_requests.proofs.found.next.Lts as lts
-use Rattle.check_requests.proofs.found.number_of.Reads as number-of-reads
-use Rattle.check_requests.proofs.word.load.Reads as load-reads
-use Rattle.check_requests.proofs.word.word_at.Reads as word-at-reads
-use Rattle.request.proofs.check.Reads as check-reads
 
 returns : tie.Need-returns
 returns c = found-short (c .before .before .before .args .b .now) (c .if1 .taken)

@@ -3,8 +3,6 @@ use native.Mathlib.Omega.{arith}
 use borrow.Author.Needs.{needs}
 use Rattle.check_requests.proofs.found.number_of.Statement.{statement}
 use Rattle.check_requests.proofs.found.number_of.Tie as tie
-use Rattle.check_requests.proofs.found.number_of.Reads as reads
-use Rattle.check_requests.proofs.found.number_of.Lts as lts
 
 enum-told : tie.Need-enum-told
 enum-told c = search needs

@@ -4,9 +4,6 @@ use native.Mathlib.Omega.{arith}
 use borrow.Author.Needs.{needs}
 use Rattle.check_requests.proofs.line.put.Statement.{statement}
 use Rattle.check_requests.proofs.line.put.Tie as tie
-use Rattle.check_requests.proofs.line.put.Reads as reads
-use Rattle.check_requests.proofs.line.put.Lts as lts
-use Rattle.check_requests.proofs.line.digit.Reads as digit-reads
 
 slice-write-out : tie.Need-slice-write-out
 slice-write-out c = search needs

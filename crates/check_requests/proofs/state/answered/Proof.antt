@@ -4,10 +4,6 @@ use native.Mathlib.Omega.{arith}
 use borrow.Author.Needs.{needs}
 use Rattle.check_requests.proofs.state.answered.Statement.{statement}
 use Rattle.check_requests.proofs.state.answered.Tie as tie
-use Rattle.check_requests.proofs.state.answered.Reads as reads
-use Rattle.check_requests.proofs.state.answered.Lts as lts
-use Rattle.check_requests.proofs.found.next.Reads as next-reads
-use Rattle.check_requests.proofs.line.put.Reads as put-reads
 
 sub-next : tie.Need-sub-next
 sub-next c = search needs

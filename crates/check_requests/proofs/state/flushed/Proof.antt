@@ -4,9 +4,6 @@ use native.Mathlib.Omega.{arith}
 use borrow.Author.Needs.{needs}
 use Rattle.check_requests.proofs.state.flushed.Statement.{statement}
 use Rattle.check_requests.proofs.state.flushed.Tie as tie
-use Rattle.check_requests.proofs.state.flushed.Reads as reads
-use Rattle.check_requests.proofs.state.flushed.Lts as lts
-use Rattle.io.proofs.write_all.Reads as write-all-reads
 
 sub-if1 : tie.Need-sub-if1
 sub-if1 c = search needs

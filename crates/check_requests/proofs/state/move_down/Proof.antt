@@ -7,8 +7,6 @@ use borrow.Author.Needs.{needs}
 use native.Mathlib.Omega.{arith}
 use Rattle.check_requests.proofs.state.move_down.Statement.{statement}
 use Rattle.check_requests.proofs.state.move_down.Tie as tie
-use Rattle.check_requests.proofs.state.move_down.Reads as reads
-use Rattle.check_requests.proofs.state.move_down.Lts as lts
 
 abbrev Inv-loop : tie.InvT-loop
 Inv-loop bytes₀ from n i₀ bytes i = (i ≤ n) × (length bytes ≡ length bytes₀) × (bytes ≡ paste bytes₀ 0 (drop from bytes₀) i)

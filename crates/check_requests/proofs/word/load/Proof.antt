@@ -8,9 +8,6 @@ use borrow.Author.Needs.{needs}
 use native.Mathlib.Omega.{arith}
 use Rattle.check_requests.proofs.word.load.Statement.{statement}
 use Rattle.check_requests.proofs.word.load.Tie as tie
-use Rattle.check_requests.proofs.word.load.Reads as reads
-use Rattle.check_requests.proofs.word.load.Lts as lts
-use Rattle.check_requests.proofs.word.word_at.Reads as word-at-reads
 
 abbrev Inv-loop : tie.InvT-loop
 Inv-loop b words₀ n i₀ words i = (i ≤ n) × (length words ≡ length words₀) × (words ≡ wordsOf i b ++ drop i words₀)

@@ -3,9 +3,6 @@ use native.Mathlib.Omega.{arith}
 use borrow.Author.Needs.{needs}
 use Rattle.check_requests.proofs.word.word_at.Statement.{statement}
 use Rattle.check_requests.proofs.word.word_at.Tie as tie
-use Rattle.check_requests.proofs.word.word_at.Reads as reads
-use Rattle.check_requests.proofs.word.word_at.Lts as lts
-use Rattle.check_requests.proofs.word.wide.Reads as wide-reads
 
 shared-slice-read-wide : tie.Need-shared-slice-read-wide
 shared-slice-read-wide c = search needs
