@@ -18,3 +18,4 @@ pub mod Steps
 pub mod Descent
 pub mod Bounds
 pub mod Shortcuts
+pub mod Histories

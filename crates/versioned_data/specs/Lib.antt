@@ -5,3 +5,4 @@ pub mod Found
 pub mod Edited
 pub mod Base
 pub mod Materialize
+pub mod Histories
