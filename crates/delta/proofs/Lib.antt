@@ -4,4 +4,6 @@ pub mod Gain
 pub mod Merging
 pub mod Ops
 pub mod Places
+pub mod Runs
 pub mod Sums
+mod Walking

@@ -73,6 +73,11 @@ accumulate nothing earlier = merged earlier
 accumulate (merged newer) earlier = gathered (merge newer earlier)
 accumulate failed earlier = failed
 
+-- a run of deltas, newest first
+unfoldable pub accumulateAll : Accumulated → List Delta → Accumulated
+accumulateAll a [] = a
+accumulateAll a (d ∷ ds) = accumulateAll (accumulate a d) ds
+
 -- what was gathered is valid, where it is a delta
 unfoldable pub validSoFar : Accumulated → Bool
 validSoFar nothing = true

@@ -1,13 +1,13 @@
 -- The code's `DeltaOp` and its answers, tied to the exact deltas of `Delta`.
 -- Assumes nothing.
-use mathlib.Core.Bool.{Bool, not, cond, _&&_}
-use mathlib.Core.List.{List}
+use mathlib.Core.Bool.{Bool, true, false, not, cond, _&&_}
+use mathlib.Core.List.{List, [], _∷_, map}
 use mathlib.Core.Option.{Option, none, some}
 use Prim.Native.Nat.{ℕ}
 use lib.Dec.{leb, ltb}
 use lib.IntN.{ℤ, natAbs}
 use Rattle.number.specs.Number.{Halves, range, valueOf, numberOf}
-use Rattle.delta.specs.Delta.{Delta, valid, Accumulated, nothing, merged, failed, isMinus, signed, numberAt, minusZero, minusAt}
+use Rattle.delta.specs.Delta.{Delta, valid, merge, Accumulated, nothing, merged, failed, accumulate, accumulateAll, isMinus, signed, numberAt, minusZero, minusAt}
 use Rattle.delta.specs.declared.signed.Change.{Change}
 use Rattle.delta.specs.declared.signed.Change.the-variants.{To, Over}
 use Rattle.delta.specs.declared.signed.Reach.{Reach}
@@ -19,6 +19,7 @@ use Rattle.delta.specs.declared.Merged.{Merged}
 use Rattle.delta.specs.declared.Merged.the-variants.{Joined, Apart}
 use Rattle.delta.specs.declared.Accumulator.{Accumulator}
 use Rattle.delta.specs.declared.Accumulator.the-variants.{Empty, Gathered, Failed}
+use Rattle.delta.specs.declared.lent.Absorbed.{Absorbed}
 
 -- each number of the struct is two 64-bit halves: what a value of the code's type always is
 pub record AllHalves (o : DeltaOp) : Type 0 where
@@ -90,3 +91,42 @@ changeOf z = cond (ltb (natAbs z) range) (To (numberOf (natAbs z)) (isMinus z)) 
 -- a number within a limit, or the word that it is beyond
 unfoldable pub reachOf : ℕ → ℕ → Reach
 reachOf limit v = cond (leb v limit) (Within (numberOf v)) Beyond
+
+-- ---- a delta that is lent to a merge
+
+-- what stands in it afterwards: a failure leaves it unchanged
+unfoldable pub keptOr : DeltaOp → Merged → DeltaOp
+keptOr newer (Joined d) = d
+keptOr newer Apart = newer
+
+-- what the lent merge answers
+unfoldable pub isJoined : Merged → Bool
+isJoined (Joined d) = true
+isJoined Apart = false
+
+-- back from the answer and the lent delta
+unfoldable pub mergedIf : Bool → DeltaOp → Merged
+mergedIf true d = Joined d
+mergedIf false d = Apart
+
+-- what stands in it afterwards, with the answer
+unfoldable pub absorbedOf : DeltaOp → Merged → Absorbed
+absorbedOf newer m = record { delta = keptOr newer m; ok = isJoined m }
+
+-- ---- records that anybody may have written
+
+-- a bad record is not merged
+unfoldable pub mergeOps : (newer previous : DeltaOp) → Option Delta
+mergeOps newer previous = cond (validOp newer && validOp previous) (merge (exact newer) (exact previous)) none
+
+-- "a bad record a failed merge"
+unfoldable pub accumulateOp : Accumulated → DeltaOp → Accumulated
+accumulateOp a o = cond (validOp o) (accumulate a (exact o)) failed
+
+unfoldable pub validOps : List DeltaOp → Bool
+validOps [] = true
+validOps (o ∷ os) = validOp o && validOps os
+
+-- "A run of deltas, newest first, is then also folded from a lent slice of delta records. An empty run gives none, a bad record a failed merge."
+unfoldable pub foldRecords : List DeltaOp → Accumulated
+foldRecords os = cond (validOps os) (accumulateAll nothing (map exact os)) failed

@@ -7,8 +7,9 @@ ghost use mathlib.Core.Path.{_≡_};
 ghost use mathlib.Core.Bool.{true};
 ghost use Rattle.number.specs.Number.{valueOf};
 ghost use Rattle.delta.specs.Delta.{valid, applyTo, merge, accumulate, validSoFar};
-ghost use Rattle.delta.specs.Op.{exact, validOp, appliedOf, mergedOf, exactly, accumulatorOf};
+ghost use Rattle.delta.specs.Op.{exact, validOp, appliedOf, mergedOf, exactly, accumulatorOf, accumulateOp};
 
+pub mod lent;
 mod signed;
 pub mod words;
 
@@ -150,11 +151,22 @@ impl Accumulator {
     {
         match self {
             Accumulator::Empty => Accumulator::Gathered(earlier),
-            Accumulator::Gathered(newer) => match newer.merge_with_previous_delta(earlier) {
+            Accumulator::Gathered(newer) => match lent::merge_copy(newer, earlier) {
                 Merged::Joined(delta) => Accumulator::Gathered(delta),
                 Merged::Apart => Accumulator::Failed,
             },
             Accumulator::Failed => Accumulator::Failed,
         }
+    }
+
+    // An earlier record that anybody may have written: a bad one fails the merge.
+    pub fn accumulate_record(self, earlier: DeltaOp) -> Accumulator
+        requires gathered { ⌜ validSoFar (exactly self) ≡ true ⌝ }
+        ensures accumulates { λ r. ⌜ r ≡ accumulatorOf (accumulateOp (exactly self) earlier) ⌝ }
+    {
+        if !earlier.is_valid() {
+            return Accumulator::Failed;
+        }
+        self.accumulate(earlier)
     }
 }

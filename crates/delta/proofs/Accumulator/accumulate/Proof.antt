@@ -11,8 +11,8 @@ enum-told c = search needs
 enum-known-self : tie.Need-enum-known-self
 enum-known-self c = search needs
 
-merge-with-previous-delta-requires : tie.Need-merge-with-previous-delta-requires
-merge-with-previous-delta-requires c κs =
+merge-copy-requires : tie.Need-merge-copy-requires
+merge-copy-requires c κs =
     let newer = gathered-valid _ _ (c .before .self .given .1) (c .before .before .before .pre .0) in
     let earlier = validOp-valid _ (c .before .before .before .pre .1) in
     (search needs, search needs)
@@ -30,10 +30,10 @@ returns : tie.Need-returns
 returns c = accumulated-empty _ _ (search needs) (c .before .before .pre .1) (c .enum-told .given .1)
 
 returns-2 : tie.Need-returns-2
-returns-2 c = accumulated-joined _ _ _ (c .before .before .before .before .before .self .given .1) _ _ (c .before .before .before .merge-with-previous-delta .ensures) (c .before .delta .given .1)
+returns-2 c = accumulated-joined _ _ _ (c .before .before .before .before .before .self .given .1) _ _ (c .before .before .before .merge-copy .ensures) (c .before .delta .given .1)
 
 returns-3 : tie.Need-returns-3
-returns-3 c = accumulated-apart _ _ _ (c .before .before .before .before .self .given .1) _ (c .before .before .merge-with-previous-delta .ensures) (c .enum-told2 .given .1)
+returns-3 c = accumulated-apart _ _ _ (c .before .before .before .before .self .given .1) _ (c .before .before .merge-copy .ensures) (c .enum-told2 .given .1)
 
 returns-4 : tie.Need-returns-4
 returns-4 c = accumulated-failed _ _ (c .enum-told3 .given .1)
@@ -44,7 +44,7 @@ accumulate-spec =
     (tie.spec
     enum-told
     enum-known-self
-    merge-with-previous-delta-requires
+    merge-copy-requires
     enum-known-delta
     enum-told-2
     enum-told-3
