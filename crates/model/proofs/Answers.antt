@@ -16,13 +16,13 @@ use Rattle.number.specs.Words.{digits}
 use Rattle.number.proofs.Digits.{length-digits, words-digits}
 use Rattle.delta.specs.Delta.{Delta, deltaWords}
 use Rattle.delta.proofs.Format.{length-deltaWords, words-deltaWords}
-use Rattle.types.specs.Value.{valueWidth, isDeletion, isExchanged}
+use Rattle.types.specs.Value.{valueWidth, isDeletion, isExchanged, sameBytes}
 use Rattle.types.specs.Response.{response}
 use Rattle.request.specs.Request.{Request, refusalOf, requestOf}
 use Rattle.request.specs.Request as Ask
 use Rattle.request.specs.Set.{Member}
 use Rattle.model.specs.Rows.{Row, every, isAbove, rising, find, downFrom, ofKey, leave, set, edited}
-use Rattle.model.specs.Data.{Cell, write, delta, Entry, done, unlessDiffers, sameExchanged, sameBytes, baseOver, baseOnto, setBaseValue, mayWrite, writeValue, addDelta, markEstimate, remove, record-shortcut, materialized, materializeDelta, fetchData, Ruling, refuse, accept, doneAnswer, Read, versioned, resolved, unresolved, uninitialized, dependency, applicationFailure, refusal, readOf, versionedAnswer, readRuling}
+use Rattle.model.specs.Data.{Cell, write, delta, Entry, done, unlessDiffers, sameExchanged, baseOver, baseOnto, setBaseValue, mayWrite, writeValue, addDelta, markEstimate, remove, record-shortcut, materialized, materializeDelta, fetchData, Ruling, refuse, accept, doneAnswer, Read, versioned, resolved, unresolved, uninitialized, dependency, applicationFailure, refusal, readOf, versionedAnswer, readRuling}
 use Rattle.model.specs.Group.{Update, Committed, Latest, hasBase, latest, dependencyAnswer, latestAnswer, Size, counted, waits, sizeOver, allTags, sizeAnswer, setOf, valuesOf, committedAnswer, valueOf, commit, Commits, commits, firstBase, allAgree, setRawBaseValues, exchangeRaw, exchangeIn, updateTaggedBaseValue, outside, membersIn, writeGroup, markGroup, removeGroup, fetchTaggedData, getGroupSize, getLastCommittedGroup, finalizedTo, finalizeGroup}
 use Rattle.model.specs.Fine.{isWord, fineValue, fineEntry, fineUpdate, fineCommitted, fineGroup, fine, fineRead, fineLatest, fineSize, fineAnswer, fineRequest}
 use Rattle.model.proofs.Lists.{and-left, and-right, and-both, and-three, and-four, every-imp, every-keep, every-kept, every-append}

@@ -9,9 +9,9 @@ use native.Mathlib.Omega.{arith}
 use lib.Dec.{eqb, lit<}
 use borrow.Author.Tests.{ne-eqb}
 use Rattle.delta.specs.Delta.{Delta}
-use Rattle.types.specs.Value.{isExchanged}
+use Rattle.types.specs.Value.{isExchanged, sameBytes}
 use Rattle.model.specs.Rows.{Row, rising, every, find, downFrom, Edit, leave, set, clear, edited}
-use Rattle.model.specs.Data.{Cell, write, delta, Entry, done, Ruling, refuse, accept, Read, versioned, resolved, unresolved, uninitialized, dependency, applicationFailure, refusal, readOf, doneAnswer, sameExchanged, sameBytes, unlessDiffers, baseOver, baseOnto, setBaseValue, mayWrite, writeValue, addDelta, markEstimate, remove, withShortcut, record-shortcut, materialized, materializeDelta}
+use Rattle.model.specs.Data.{Cell, write, delta, Entry, done, Ruling, refuse, accept, Read, versioned, resolved, unresolved, uninitialized, dependency, applicationFailure, refusal, readOf, doneAnswer, sameExchanged, unlessDiffers, baseOver, baseOnto, setBaseValue, mayWrite, writeValue, addDelta, markEstimate, remove, withShortcut, record-shortcut, materialized, materializeDelta}
 use Rattle.model.specs.Fine.{isWord, isNumber, fineValue, fineDelta, fineShortcut, fineCell, fineEntry, fineEntries, fineRead}
 use Rattle.model.proofs.Lists.{and-left, and-right, and-both}
 use Rattle.model.specs.Rows.{rowAt}

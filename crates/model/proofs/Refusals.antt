@@ -7,7 +7,7 @@ use mathlib.Core.Option.{Option, none, some}
 use Prim.Native.Nat.{ℕ, _-_}
 use lib.Dec.{eqb}
 use Rattle.delta.specs.Delta.{Accumulated, nothing, merged, failed, applyTo}
-use Rattle.types.specs.Value.{layoutOf, isDeletion, isExchanged, hasNumber, numberIn}
+use Rattle.types.specs.Value.{layoutOf, isDeletion, isExchanged, hasNumber, numberIn, sameBytes}
 use Rattle.request.specs.Set.{Member}
 use Rattle.request.specs.Request
 use Rattle.request.specs.Request.{Request, lastCommitted, fetch, groupFetch, groupSize, refusalOf, requestOf, rowAt, shapeOk, fieldsOk, indexOk}
@@ -117,11 +117,11 @@ baseOver-not-full : (new old : List ℕ) → NotFull (Data.baseOver new old)
 unfolding Data.baseOver
 baseOver-not-full new old = go (isExchanged new) (isExchanged old)
   where
-    go : (x y : Bool) → NotFull (cond x (cond y (Data.unlessDiffers (Data.sameExchanged new old)) (accept Data.doneAnswer (set (Data.done (Data.write 0 new))))) (cond y (accept Data.doneAnswer leave) (Data.unlessDiffers (Data.sameBytes new old))))
+    go : (x y : Bool) → NotFull (cond x (cond y (Data.unlessDiffers (Data.sameExchanged new old)) (accept Data.doneAnswer (set (Data.done (Data.write 0 new))))) (cond y (accept Data.doneAnswer leave) (Data.unlessDiffers (sameBytes new old))))
     go true true = unlessDiffers-not-full (Data.sameExchanged new old)
     go true false = tt
     go false true = tt
-    go false false = unlessDiffers-not-full (Data.sameBytes new old)
+    go false false = unlessDiffers-not-full (sameBytes new old)
 
 baseOnto-not-full : (new : List ℕ) (c : Cell) → NotFull (Data.baseOnto new c)
 unfolding Data.baseOnto

@@ -7,7 +7,7 @@ use Prim.Native.Nat.{ℕ, zero, suc, _-_}
 use lib.Dec.{ltb, eqb}
 use Rattle.number.specs.Words.{digits}
 use Rattle.delta.specs.Delta.{Delta, applyTo, Accumulated, nothing, merged, failed, accumulate, deltaWords}
-use Rattle.types.specs.Value.{layoutOf, isDeletion, isExchanged, hasNumber, numberIn, bytesLen}
+use Rattle.types.specs.Value.{layoutOf, isDeletion, isExchanged, hasNumber, numberIn, sameBytes}
 use Rattle.types.specs.Response.{response}
 use Rattle.model.specs.Rows.{Row, Edit, leave, set, clear}
 
@@ -110,16 +110,6 @@ readRuling same uninitialized = accept (response 4 []) same
 readRuling same (dependency index) = accept (response 6 (index ∷ [])) same
 readRuling same applicationFailure = accept (response 7 []) same
 readRuling same (refusal n) = refuse n
-
--- "lengths equal, deletion matching only deletion"
-unfoldable pub sameLength : Option ℕ → Option ℕ → Bool
-sameLength none none = true
-sameLength none (some n) = false
-sameLength (some m) none = false
-sameLength (some m) (some n) = eqb m n
-
-unfoldable pub sameBytes : List ℕ → List ℕ → Bool
-sameBytes v w = sameLength (bytesLen v) (bytesLen w)
 
 -- "layouts both present or both 0, lengths equal in the same way if both 0"
 unfoldable pub sameExchanged : List ℕ → List ℕ → Bool

@@ -6,11 +6,11 @@ use mathlib.Core.Option.{Option, none, some}
 use Prim.Native.Nat.{ℕ, zero, suc, _+_, _-_, _^_}
 use lib.Dec.{eqb}
 use Rattle.number.specs.Words.{digits}
-use Rattle.types.specs.Value.{isCreation, isDeletion, isExchanged, bytesLen}
+use Rattle.types.specs.Value.{isCreation, isDeletion, isExchanged, bytesLen, sameBytes}
 use Rattle.types.specs.Response.{response}
 use Rattle.request.specs.Set.{Member}
 use Rattle.model.specs.Rows.{Row, find, put, erase, ofKey, Edit, leave, set, clear}
-use Rattle.model.specs.Data.{Ruling, refuse, accept, doneAnswer, versionedAnswer, sameBytes}
+use Rattle.model.specs.Data.{Ruling, refuse, accept, doneAnswer, versionedAnswer}
 
 -- One transaction's values for the tags of a group; at the base, those from storage.
 pub record Update : Type 0 where

@@ -67,8 +67,8 @@ workOf (Ask.groupFetch key tag index) = readGroup key index (λ seen. fetchTagge
 workOf (Ask.groupSize key index) = readGroup key index (λ seen. getGroupSize seen)
 workOf (Ask.finalize key index) = commitGroup key (suc index) (λ own group. finalizeGroup key own group)
 
--- A ruling carried to the model.
-unfoldable pub ruled : {A : Type 0} → (A → Model) → Ruling A → Ruling Model
+-- A ruling carried to what the rule's edit makes.
+unfoldable pub ruled : {A B : Type 0} → (A → B) → Ruling A → Ruling B
 ruled f (refuse n) = refuse n
 ruled f (accept answer a) = accept answer (f a)
 

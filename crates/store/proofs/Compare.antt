@@ -8,7 +8,7 @@ use native.Mathlib.Omega.{arith}
 use lib.Dec.{ltb, eqb}
 use lib.ListN.{length, getD, take}
 use borrow.Author.Tests.{eq-eqb, ne-eqb, le-ltb}
-use Rattle.store.specs.Slots.{Slot, slotWidth, slotsIn, slotAt, isUsed, before, isBefore, same, isAt}
+use Rattle.store.specs.Slots.{Slot, slotWidth, slotsIn, slotAt, isUsed, before, isBefore, sameWords, isAt}
 use Rattle.store.proofs.Lists.{and-swap}
 use Rattle.store.proofs.Words.{slot-inside, length-slotAt, slotAt-word}
 
@@ -32,7 +32,7 @@ before-last x a = go (eqb x a)
     go true = sym (or-false (ltb x a))
     go false = sym (or-false (ltb x a))
 
-first-four : (u : Slot) → 4 ≤ length u → take 4 u ≡ getD u 0 0 ∷ getD u 1 0 ∷ getD u 2 0 ∷ getD u 3 0 ∷ []
+pub first-four : (u : Slot) → 4 ≤ length u → take 4 u ≡ getD u 0 0 ∷ getD u 1 0 ∷ getD u 2 0 ∷ getD u 3 0 ∷ []
 first-four [] h = absurd (omega arith)
 first-four (x ∷ []) h = absurd (omega arith)
 first-four (x ∷ y ∷ []) h = absurd (omega arith)
@@ -72,7 +72,7 @@ module _ (i : ℕ) (s : List ℕ) (h : i < slotsIn (length s)) where
   module _ (a b c d : ℕ) where
     at-words : isAt (a ∷ b ∷ c ∷ d ∷ []) (slotAt i s) ≡
         (eqb (getD s (slotWidth * i + 0) 0) a && (eqb (getD s (slotWidth * i + 1) 0) b && (eqb (getD s (slotWidth * i + 2) 0) c && (eqb (getD s (slotWidth * i + 3) 0) d && true))))
-    unfolding isAt same
+    unfolding isAt sameWords
     at-words = rw (slot-four _ _ _ _ refl refl refl refl)
 
     pub at-first : (x : ℕ) → x ≡ getD s (slotWidth * i + 0) 0 → (x ≡ a → ⊥) → false ≡ isAt (a ∷ b ∷ c ∷ d ∷ []) (slotAt i s)

@@ -26,13 +26,13 @@ length-free s n h =
     ∙ rw (length-replicate {A = ℕ} (slotWidth * (slotsIn (length s) - n)) 0, length-drop (slotWidth * slotsIn (length s)) s)
     (omega (arith, slots-inside (slotsIn (length s)) (length s) (omega arith)))
 
--- one slot less is free
-pub free-less : (s : List ℕ) (n : ℕ) → n < slotsIn (length s) → free s n ≡ replicate slotWidth 0 ++ free s (n + 1)
+-- what is free after n slots is c slots of zeros and what is free after n + c
+pub free-add : (s : List ℕ) (n c : ℕ) → n + c ≤ slotsIn (length s) → free s n ≡ replicate (slotWidth * c) 0 ++ free s (n + c)
 unfolding free
-free-less s n h =
-    let e : slotWidth * (slotsIn (length s) - n) ≡ slotWidth + slotWidth * (slotsIn (length s) - (n + 1)) = omega arith in
-    rw (e, ← replicate-append-replicate {A = ℕ} slotWidth (slotWidth * (slotsIn (length s) - (n + 1))) 0)
-    (append-assoc (replicate slotWidth 0) (replicate (slotWidth * (slotsIn (length s) - (n + 1))) 0) (drop (slotWidth * slotsIn (length s)) s))
+free-add s n c h =
+    let e : slotWidth * (slotsIn (length s) - n) ≡ slotWidth * c + slotWidth * (slotsIn (length s) - (n + c)) = omega arith in
+    rw (e, ← replicate-append-replicate {A = ℕ} (slotWidth * c) (slotWidth * (slotsIn (length s) - (n + c))) 0)
+    (append-assoc (replicate (slotWidth * c) 0) (replicate (slotWidth * (slotsIn (length s) - (n + c))) 0) (drop (slotWidth * slotsIn (length s)) s))
 
 take-free : (s : List ℕ) (n : ℕ) → take (slotWidth * (slotsIn (length s) - n)) (free s n) ≡ replicate (slotWidth * (slotsIn (length s) - n)) 0
 unfolding free

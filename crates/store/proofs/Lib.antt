@@ -1,10 +1,12 @@
 pub mod Lists
 pub mod Words
 pub mod Encode
+pub mod Moves
+pub mod Runs
 pub mod Edits
 pub mod Order
 pub mod Place
 pub mod Compare
-pub mod Moves
 pub mod Scans
 pub mod Packed
+pub mod Finds

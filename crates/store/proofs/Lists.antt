@@ -1,14 +1,14 @@
--- Laws of tests on lists, `every`, `front` and `allZero`, and what the library's laws of lists leave out.
+-- Laws of tests on lists, `every`, `front`, `allZero` and `sameWords`, and what the library's laws of lists leave out.
 -- Assumes nothing.
 use mathlib.Core.Path.{_≡_, refl, sym, ap}
 use mathlib.Core.Bool.{Bool, true, false, _&&_}
-use mathlib.Core.List.{List, [], _∷_, _++_}
+use mathlib.Core.List.{List, [], _∷_, _++_, map}
 use Prim.Native.Nat.{ℕ, zero, suc, _+_, _≤_, _<_}
 use native.Mathlib.Omega.{arith}
 use lib.Dec.{eqb}
 use lib.ListN.{length, getD, take, drop, set, replicate}
-use borrow.Author.Tests.{eqb-true}
-use Rattle.store.specs.Slots.{every, front, allZero}
+use borrow.Author.Tests.{eqb-true, eq-eqb}
+use Rattle.store.specs.Slots.{every, front, allZero, sameWords}
 
 -- a conjunction's two parts
 pub and-left : (a b : Bool) → (a && b) ≡ true → a ≡ true
@@ -157,6 +157,28 @@ every-set p (x ∷ xs) zero a e f = and-both (p a) (every p xs) f (and-right (p 
 every-set p (x ∷ xs) (suc i) a e f =
     and-both (p x) (every p (set xs i a)) (and-left (p x) (every p xs) e) (every-set p xs i a (and-right (p x) (every p xs) e) f)
 
+-- a map of a part, or of a list with one element changed
+module _ {A B : Type 0} (f : A → B) where
+  pub map-take : (i : ℕ) (xs : List A) → map f (take i xs) ≡ take i (map f xs)
+  map-take zero xs = refl
+  map-take (suc i) [] = refl
+  map-take (suc i) (x ∷ xs) = ap (λ (l : List B). f x ∷ l) (map-take i xs)
+
+  pub map-drop : (i : ℕ) (xs : List A) → map f (drop i xs) ≡ drop i (map f xs)
+  map-drop zero xs = refl
+  map-drop (suc i) [] = refl
+  map-drop (suc i) (x ∷ xs) = map-drop i xs
+
+  pub map-set : (xs : List A) (i : ℕ) (x : A) → map f (set xs i x) ≡ set (map f xs) i (f x)
+  map-set [] i x = refl
+  map-set (y ∷ xs) zero x = refl
+  map-set (y ∷ xs) (suc i) x = ap (λ (l : List B). f y ∷ l) (map-set xs i x)
+
+  pub getD-map-lt : (xs : List A) (i : ℕ) (d : A) (e : B) → i < length xs → getD (map f xs) i e ≡ f (getD xs i d)
+  getD-map-lt [] i d e h = absurd (omega arith)
+  getD-map-lt (x ∷ xs) zero d e h = refl
+  getD-map-lt (x ∷ xs) (suc i) d e h = getD-map-lt xs i d e (omega arith)
+
 pub allZero-replicate : (n : ℕ) → allZero (replicate n 0) ≡ true
 unfolding allZero
 allZero-replicate zero = refl
@@ -173,3 +195,18 @@ pub allZero-append : (xs ys : List ℕ) → allZero (xs ++ ys) ≡ (allZero xs &
 unfolding allZero
 allZero-append [] ys = refl
 allZero-append (x ∷ xs) ys = rw (allZero-append xs ys) (sym (and-assoc (eqb x 0) (allZero xs) (allZero ys)))
+
+pub same-words : (xs ys : List ℕ) → sameWords xs ys ≡ true → xs ≡ ys
+unfolding sameWords
+same-words [] [] e = refl
+same-words [] (y ∷ ys) e = true-not-false true refl (sym e)
+same-words (x ∷ xs) [] e = true-not-false true refl (sym e)
+same-words (x ∷ xs) (y ∷ ys) e =
+    let f : x ≡ y = eqb-true x y (and-left (eqb x y) (sameWords xs ys) e) in
+    let g : xs ≡ ys = same-words xs ys (and-right (eqb x y) (sameWords xs ys) e) in
+    cc
+
+pub words-same : (xs : List ℕ) → sameWords xs xs ≡ true
+unfolding sameWords
+words-same [] = refl
+words-same (x ∷ xs) = rw (eq-eqb x x refl) (words-same xs)

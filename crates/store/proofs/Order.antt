@@ -11,14 +11,15 @@ use lib.Dec.{ltb, eqb}
 use lib.ListN.{length, getD, take, drop, set, take-append-drop}
 use lib.Seq.{drop-drop}
 use borrow.Author.Tests.{ltb-true, eqb-true, lt-ltb, le-ltb, eq-eqb}
-use Rattle.store.specs.Slots.{Slot, before, isBefore, same, every, ordered, neighbours, removed}
+use Rattle.store.specs.Slots.{Slot, before, isBefore, every, ordered, neighbours}
+use Rattle.store.specs.Runs.{spliced}
 use Rattle.store.proofs.Lists.{and-left, and-right, and-both, and-assoc, and-swap, true-not-false, same-test, every-append, every-imp, every-drop, every-at, every-set}
 
 -- the order of two lists, as facts on their heads
 unfoldable pub Earlier : ℕ → ℕ → List ℕ → List ℕ → Type 0
 Earlier x y xs ys = (x < y) ⊎ ((x ≡ y) × (before xs ys ≡ true))
 
-before-told : (x y : ℕ) (xs ys : List ℕ) → before (x ∷ xs) (y ∷ ys) ≡ true → Earlier x y xs ys
+pub before-told : (x y : ℕ) (xs ys : List ℕ) → before (x ∷ xs) (y ∷ ys) ≡ true → Earlier x y xs ys
 unfolding before Earlier
 before-told x y xs ys e = go (ltb x y) refl
   where
@@ -84,21 +85,6 @@ side (x ∷ xs) (y ∷ ys) e = byHead (decLt x y) (decLt y x) (side xs ys (omega
     byHead (no h) (yes g) r = upper (before-tell y x ys xs (inl g))
     byHead (no h) (no g) r = byTail (omega arith) r
 
-pub same-true : (xs ys : List ℕ) → same xs ys ≡ true → xs ≡ ys
-unfolding same
-same-true [] [] e = refl
-same-true [] (y ∷ ys) e = true-not-false true refl (sym e)
-same-true (x ∷ xs) [] e = true-not-false true refl (sym e)
-same-true (x ∷ xs) (y ∷ ys) e =
-    let f : x ≡ y = eqb-true x y (and-left (eqb x y) (same xs ys) e) in
-    let g : xs ≡ ys = same-true xs ys (and-right (eqb x y) (same xs ys) e) in
-    cc
-
-pub same-refl : (xs : List ℕ) → same xs xs ≡ true
-unfolding same
-same-refl [] = refl
-same-refl (x ∷ xs) = rw (eq-eqb x x refl) (same-refl xs)
-
 pub isBefore-irrefl : (u : Slot) → isBefore u u ≡ false
 unfolding isBefore
 isBefore-irrefl u = before-irrefl (take 4 u)
@@ -152,13 +138,13 @@ module _ (us : List Slot) (rising : ordered us ≡ true) where
   pub ordered-halves : (i : ℕ) → every (λ u. every (isBefore u) (drop i us)) (take i us) ≡ true
   ordered-halves i = ordered-across (take i us) (drop i us) (halves i)
 
-  pub ordered-removed : (i : ℕ) → ordered (removed i us) ≡ true
-  unfolding removed
-  ordered-removed i =
-      let e : drop (i + 1) us ≡ drop 1 (drop i us) = sym (drop-drop 1 i us) in
-      ordered-append (take i us) (drop (i + 1) us) (ordered-take i) (ordered-drop (i + 1))
-      (every-imp (λ u. every (isBefore u) (drop i us)) (λ u. every (isBefore u) (drop (i + 1) us))
-      (λ u f. rw e (every-drop (isBefore u) 1 (drop i us) f))
+  pub ordered-removed : (i n : ℕ) → ordered (spliced i n [] us) ≡ true
+  unfolding spliced
+  ordered-removed i n =
+      let e : drop (i + n) us ≡ drop n (drop i us) = sym (drop-drop n i us) in
+      ordered-append (take i us) (drop (i + n) us) (ordered-take i) (ordered-drop (i + n))
+      (every-imp (λ u. every (isBefore u) (drop i us)) (λ u. every (isBefore u) (drop (i + n) us))
+      (λ u f. rw e (every-drop (isBefore u) n (drop i us) f))
       (take i us) (ordered-halves i))
 
 -- a slot replaced by one at the same place

@@ -10,12 +10,14 @@ use lib.Dec.{ltb}
 use lib.ListN.{length, getD, take, drop, length-drop, List·getD-eq-default}
 use lib.Seq.{length-take-le, getD-take, getD-drop}
 use borrow.Author.Tests.{not-true, ltb-true, ltb-false, lt-ltb, le-ltb}
-use Rattle.store.specs.Slots.{Slot, slotWidth, slotsIn, isWhole, isUsed, slotAt, held, packed, encode, front, before, isBefore, same, isAt, every, ordered, placeOf, inserted}
-use Rattle.store.proofs.Lists.{and-left, and-right, and-both, true-not-false, every-imp, every-at, every-of, every-both, every-front, front-take, length-front}
+use Rattle.store.specs.Slots.{Slot, slotWidth, slotsIn, isWhole, isUsed, slotAt, held, packed, encode, front, before, isBefore, sameWords, isAt, every, ordered, placeOf}
+use Rattle.store.specs.Runs.{spliced}
+use Rattle.store.proofs.Lists.{and-left, and-right, and-both, true-not-false, same-words, words-same, every-imp, every-at, every-of, every-both, every-front, front-take, length-front}
 use Rattle.store.proofs.Words.{whole-length}
 use Rattle.store.proofs.Encode.{held-whole, held-used, held-fits, packed-ordered, encode-held, slotAt-encode, unused-encode}
+use Rattle.store.proofs.Runs.{spliced-insert}
 use Rattle.store.proofs.Compare.{word-used, word-unused}
-use Rattle.store.proofs.Order.{before-irrefl, before-trans, Side, lower, level, upper, side, same-true, same-refl, ordered-append, ordered-take, ordered-drop, ordered-halves, ordered-at}
+use Rattle.store.proofs.Order.{before-irrefl, before-trans, Side, lower, level, upper, side, ordered-append, ordered-take, ordered-drop, ordered-halves, ordered-at}
 
 module _ (k : List ℕ) where
   pub place-fits : (us : List Slot) → placeOf k us ≤ length us
@@ -90,17 +92,17 @@ module _ (k : List ℕ) where
         go true g ih = cons u us ∙ rw (g, ih)
         go false g ih = cons u us ∙ rw g (filter-none us (none-after u us g (and-left (every (isBefore u) us) (ordered us) e)))
 
-  nothing-at : length k ≡ 4 → isAt k [] ≡ false
-  unfolding isAt same
+  pub nothing-at : length k ≡ 4 → isAt k [] ≡ false
+  unfolding isAt sameWords
   nothing-at l = go k l
     where
-      go : (xs : List ℕ) → length xs ≡ 4 → same [] xs ≡ false
+      go : (xs : List ℕ) → length xs ≡ 4 → sameWords [] xs ≡ false
       go [] e = absurd (omega arith)
       go (x ∷ xs) e = refl
 
-  at-level : (u : Slot) → isAt k u ≡ true → take 4 u ≡ k
+  pub at-level : (u : Slot) → isAt k u ≡ true → take 4 u ≡ k
   unfolding isAt
-  at-level u e = same-true (take 4 u) k e
+  at-level u e = same-words (take 4 u) k e
 
   -- the slot at the four words, if there is one, stands at their place
   pub at-place : (us : List Slot) (i : ℕ) → ordered us ≡ true → i < length us → isAt k (getD us i []) ≡ true → i ≡ placeOf k us
@@ -126,7 +128,7 @@ module _ (k : List ℕ) where
     where
       go : Side (take 4 u) k → before k (take 4 u) ≡ true
       go (lower g) = true-not-false (before (take 4 u) k) g e
-      go (level g) = true-not-false (same (take 4 u) k) (rw g (same-refl k)) f
+      go (level g) = true-not-false (sameWords (take 4 u) k) (rw g (words-same k)) f
       go (upper g) = g
 
   -- no slot is at the four words exactly where the one at their place is not
@@ -167,13 +169,14 @@ module _ (k : List ℕ) where
     unfolding isBefore
     before-place = every-imp (λ v. before (take 4 v) k) (λ v. isBefore v u) (λ v e. rw own e) (take (placeOf k us) us) (take-place us)
 
-    pub ordered-inserted : ordered (inserted (placeOf k us) u us) ≡ true
-    unfolding inserted ordered every
+    pub ordered-inserted : ordered (spliced (placeOf k us) 0 (u ∷ []) us) ≡ true
+    unfolding ordered every
     ordered-inserted =
-        ordered-append (take (placeOf k us) us) (u ∷ drop (placeOf k us) us) (ordered-take us rising (placeOf k us))
+        rw (spliced-insert (placeOf k us) u us)
+        (ordered-append (take (placeOf k us) us) (u ∷ drop (placeOf k us) us) (ordered-take us rising (placeOf k us))
         (and-both (every (isBefore u) (drop (placeOf k us) us)) (ordered (drop (placeOf k us) us)) after-place (ordered-drop us rising (placeOf k us)))
         (every-both (λ v. isBefore v u) (λ v. every (isBefore v) (drop (placeOf k us) us)) (take (placeOf k us) us) before-place
-        (ordered-halves us rising (placeOf k us)))
+        (ordered-halves us rising (placeOf k us))))
 
 -- what a search reads of a packed store: slots not in use count as after everything
 module _ (s : List ℕ) (rising : packed s ≡ true) (i : ℕ) (h : i < slotsIn (length s)) where

@@ -8,11 +8,11 @@ use native.Mathlib.Omega.{arith}
 use native.Mathlib.Numerals.{add-one}
 use lib.Dec.{eqb}
 use lib.ListN.{length, getD, take, drop}
-use lib.Seq.{drop-cons, append-snoc}
+use lib.Seq.{drop-drop, drop-cons, append-snoc}
 use borrow.Author.Tests.{eq-eqb, ne-eqb}
 use Rattle.store.specs.Slots.{Slot, slotWidth, slotsIn, slots, slotAt, isUsed, held, every, neighbours, joined, allZero, isZeroFrom, packed, sound, isWhole, encode, isBefore, ordered}
 use Rattle.store.proofs.Lists.{and-left, and-right, and-both, and-swap, true-not-false, every-append, every-at}
-use Rattle.store.proofs.Words.{length-slots, slots-more}
+use Rattle.store.proofs.Words.{drop-take, length-slots, slots-more}
 use Rattle.store.proofs.Encode.{held-at, held-slots, held-long, held-stop, held-fits, held-encode, zero-from-encode}
 use Rattle.store.proofs.Order.{neighbours-imp, neighbours-at, neighbours-snoc, ordered-is-neighbours}
 
@@ -37,6 +37,14 @@ unfolding allZero
 zero-done s i to ok all e h =
     let f : to - i ≡ 0 = omega arith in
     and-swap true ok ∙ (rw f at e)
+
+-- the words of a slot from one on
+pub rest-is : (s : List ℕ) (i j : ℕ) (r : Bool) → j ≤ slotWidth → r ≡ allZero (take (slotWidth * i + slotWidth - (slotWidth * i + j)) (drop (slotWidth * i + j) s)) →
+    r ≡ allZero (drop j (slotAt i s))
+unfolding slotAt
+rest-is s i j r h e =
+    let n : slotWidth * i + slotWidth - (slotWidth * i + j) ≡ slotWidth - j = omega arith in
+    e ∙ rw (n, drop-take j slotWidth (drop (slotWidth * i) s) h, drop-drop j (slotWidth * i) s)
 
 pub zero-slots : (s : List ℕ) (n m : ℕ) (r : Bool) → m ≡ slotsIn (length s) → r ≡ allZero (take (slotWidth * m - slotWidth * n) (drop (slotWidth * n) s)) → r ≡ isZeroFrom n s
 unfolding isZeroFrom

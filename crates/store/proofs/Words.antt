@@ -1,20 +1,37 @@
--- Slots as words and words as slots: laws of `flat`, `slots` and `slotAt`.
+-- Slots as words and words as slots: laws of `padded`, `flat`, `slots` and `slotAt`.
 -- Assumes nothing.
 use mathlib.Core.Path.{_≡_, refl, sym, _∙_, ap}
 use mathlib.Core.Bool.{true}
 use mathlib.Core.List.{List, [], _∷_, _++_, append-assoc}
 use Prim.Native.Nat.{ℕ, zero, suc, _+_, _-_, _*_, _≤_, _<_}
+use native.Mathlib.Nat.{sub-zero, suc-sub-suc, not-suc-le-zero, le-of-suc-le-suc}
 use native.Mathlib.Omega.{arith}
-use lib.ListN.{length, getD, take, drop, length-append, length-drop, take-append-drop}
-use lib.Seq.{length-take-le, take-at, drop-at, drop-drop, take-add, getD-take, getD-drop}
+use lib.ListN.{length, getD, take, drop, replicate, length-append, length-drop, length-replicate, take-append-drop, List·getD-append}
+use lib.Seq.{length-take-le, take-nil, take-take, take-at, drop-at, drop-drop, take-add, getD-take, getD-drop}
 use borrow.Author.Tests.{eqb-true, eq-eqb}
-use Rattle.store.specs.Slots.{Slot, slotWidth, slotsIn, flat, slots, slotAt, isWhole, every}
+use Rattle.store.specs.Slots.{Slot, slotWidth, slotsIn, flat, slots, slotAt, isWhole, padded, every}
 use Rattle.store.proofs.Lists.{and-left, and-right, and-both, every-take, every-drop}
 
 -- a slot's words are inside the store
 pub slot-inside : (i w : ℕ) → i < slotsIn w → slotWidth * i + slotWidth ≤ w
 unfolding slotsIn
 slot-inside i w h = omega arith
+
+-- so many words at a place of a slot are inside the store
+pub part-inside : (j n m w : ℕ) → j < slotsIn w → n + m ≤ slotWidth → slotWidth * j + n + m ≤ w
+part-inside j n m w h l = omega (arith, slot-inside j w h)
+
+-- a part of a slot is a part of the store
+pub drop-take : (a b : ℕ) (l : List ℕ) → a ≤ b → drop a (take b l) ≡ take (b - a) (drop a l)
+drop-take zero b l h = rw (sub-zero b)
+drop-take (suc a) zero l h = absurd (not-suc-le-zero h)
+drop-take (suc a) (suc b) [] h = sym (take-nil (suc b - suc a))
+drop-take (suc a) (suc b) (x ∷ l) h = drop-take a b l (le-of-suc-le-suc h) ∙ ap (λ (n : ℕ). take n (drop a l)) (sym (suc-sub-suc b a))
+
+pub slotAt-part : (i a n : ℕ) (s : List ℕ) → a + n ≤ slotWidth → take n (drop a (slotAt i s)) ≡ take n (drop (slotWidth * i + a) s)
+unfolding slotAt
+slotAt-part i a n s h =
+    rw (drop-take a slotWidth (drop (slotWidth * i) s) (omega arith), take-take n (slotWidth - a) (drop a (drop (slotWidth * i) s)) (omega arith), drop-drop a (slotWidth * i) s)
 
 pub slots-inside : (n w : ℕ) → n ≤ slotsIn w → slotWidth * n ≤ w
 unfolding slotsIn
@@ -27,6 +44,15 @@ slots-few w = omega arith
 pub whole-length : (u : Slot) → isWhole u ≡ true → length u ≡ slotWidth
 unfolding isWhole
 whole-length u e = eqb-true (length u) slotWidth e
+
+pub padded-whole : (ws : List ℕ) → length ws ≤ slotWidth → length (padded ws) ≡ slotWidth
+unfolding padded
+padded-whole ws h =
+    omega (arith, length-append ws (replicate (slotWidth - length ws) 0), length-replicate (slotWidth - length ws) (let z : ℕ = 0 in z))
+
+pub getD-padded : (ws : List ℕ) (j : ℕ) → j < length ws → getD (padded ws) j 0 ≡ getD ws j 0
+unfolding padded
+getD-padded ws j h = List·getD-append ws (replicate (slotWidth - length ws) 0) 0 j h
 
 pub flat-append : (us vs : List Slot) → flat (us ++ vs) ≡ flat us ++ flat vs
 unfolding flat

@@ -37,6 +37,10 @@ slotAt i s = take slotWidth (drop (slotWidth * i) s)
 unfoldable pub isWhole : Slot → Bool
 isWhole u = eqb (length u) slotWidth
 
+-- Words with zeros after them, as wide as a slot.
+unfoldable pub padded : List ℕ → Slot
+padded ws = ws ++ replicate (slotWidth - length ws) 0
+
 -- A slot is in use where its first word is not 0.
 unfoldable pub isUsed : Slot → Bool
 isUsed u = not (eqb (getD u 0 0) 0)
@@ -59,15 +63,15 @@ before (x ∷ xs) (y ∷ ys) = ltb x y || eqb x y && before xs ys
 unfoldable pub isBefore : Slot → Slot → Bool
 isBefore u v = before (take 4 u) (take 4 v)
 
-unfoldable pub same : List ℕ → List ℕ → Bool
-same [] [] = true
-same [] (y ∷ ys) = false
-same (x ∷ xs) [] = false
-same (x ∷ xs) (y ∷ ys) = eqb x y && same xs ys
+unfoldable pub sameWords : List ℕ → List ℕ → Bool
+sameWords [] [] = true
+sameWords [] (y ∷ ys) = false
+sameWords (x ∷ xs) [] = false
+sameWords (x ∷ xs) (y ∷ ys) = eqb x y && sameWords xs ys
 
 -- A slot stands at the place that its first four words give.
 unfoldable pub isAt : List ℕ → Slot → Bool
-isAt k u = same (take 4 u) k
+isAt k u = sameWords (take 4 u) k
 
 unfoldable pub every : {A : Type 0} → (A → Bool) → List A → Bool
 every p [] = true
@@ -109,23 +113,20 @@ sound ok pair s = isZeroFrom (length (held s)) s && (every ok (held s) && neighb
 unfoldable pub placeOf : List ℕ → List Slot → ℕ
 placeOf k us = length (front (λ u. before (take 4 u) k) us)
 
--- Slots from i on moved up by one, for n in use; slot i is left as it was, to be overwritten.
-unfoldable pub opened : ℕ → ℕ → List ℕ → List ℕ
-opened i n s = take (slotWidth * (i + 1)) s ++ (take (slotWidth * (n - i)) (drop (slotWidth * i) s) ++ drop (slotWidth * (n + 1)) s)
+-- Slots from i on moved up by c, for n in use; the c slots from i on are left as they were, to be overwritten.
+unfoldable pub opened : ℕ → ℕ → ℕ → List ℕ → List ℕ
+opened c i n s = take (slotWidth * (i + c)) s ++ (take (slotWidth * (n - i)) (drop (slotWidth * i) s) ++ drop (slotWidth * (n + c)) s)
 
--- Slots after i moved down by one, for n in use, and the last of them cleared.
-unfoldable pub closed : ℕ → ℕ → List ℕ → List ℕ
-closed i n s =
+-- c slots from i on cleared.
+unfoldable pub cleared : ℕ → ℕ → List ℕ → List ℕ
+cleared c i s = take (slotWidth * i) s ++ (replicate (slotWidth * c) 0 ++ drop (slotWidth * (i + c)) s)
+
+-- Slots from i + c on moved down by c, for n in use, and the last c of them cleared.
+unfoldable pub closed : ℕ → ℕ → ℕ → List ℕ → List ℕ
+closed c i n s =
     take (slotWidth * i) s
-    ++ (take (slotWidth * (n - (i + 1))) (drop (slotWidth * (i + 1)) s) ++ (replicate slotWidth 0 ++ drop (slotWidth * n) s))
+    ++ (take (slotWidth * (n - (i + c))) (drop (slotWidth * (i + c)) s) ++ (replicate (slotWidth * c) 0 ++ drop (slotWidth * n) s))
 
 -- Slot i replaced.
 unfoldable pub written : ℕ → Slot → List ℕ → List ℕ
 written i u s = take (slotWidth * i) s ++ (u ++ drop (slotWidth * (i + 1)) s)
-
--- Edits of the list of slots in use.
-unfoldable pub inserted : {A : Type 0} → ℕ → A → List A → List A
-inserted i u us = take i us ++ (u ∷ drop i us)
-
-unfoldable pub removed : {A : Type 0} → ℕ → List A → List A
-removed i us = take i us ++ drop (i + 1) us

@@ -1,9 +1,10 @@
 // Moving and writing slots.
 ghost use mathlib.Core.Path.{_≡_};
 ghost use mathlib.Core.List.{_++_};
-ghost use Prim.Native.Nat.{_+_, _-_, _*_, _≤_, _<_};
-ghost use lib.ListN.{length, set, take, drop, replicate};
-ghost use Rattle.store.specs.Slots.{slotWidth, slotsIn, opened, closed, written};
+ghost use Prim.Native.Nat.{_+_, _*_, _≤_, _<_};
+ghost use lib.ListN.{length, set, take, drop};
+ghost use Rattle.store.specs.Slots.{slotWidth, slotsIn, opened, cleared, closed, written};
+ghost use Rattle.store.specs.Runs.{resized};
 
 // Words of one slice copied into another.
 pub fn copy_words(to: &mut [u32], at: usize, from: &[u32], start: usize, n: usize)
@@ -36,52 +37,69 @@ pub fn set_word(s: &mut [u32], i: usize, j: usize, w: u32)
     s[32 * i + j] = w;
 }
 
-// Slots from i on, of n in use, moved up by one. Words are moved from the top down, so that none is overwritten before it is read.
-pub fn open_slot(s: &mut [u32], i: usize, n: usize)
+// Slots from i on, of n in use, moved up by c. Words are moved from the top down, so that none is overwritten before it is read.
+pub fn open_slots(s: &mut [u32], i: usize, n: usize, c: usize)
     requires order { ⌜ i ≤ n ⌝ }
-    requires room { ⌜ n < slotsIn (length (now s)) ⌝ }
-    ensures opened { λ r. ⌜ now (s .exit) ≡ opened i n (now (s .entry)) ⌝ }
+    requires room { ⌜ n + c ≤ slotsIn (length (now s)) ⌝ }
+    ensures opened { λ r. ⌜ now (s .exit) ≡ opened c i n (now (s .entry)) ⌝ }
 {
     let low = 32 * i;
+    let gap = 32 * c;
     let mut k = 32 * n;
     while low < k {
         k -= 1;
-        s[k + 32] = s[k];
+        s[k + gap] = s[k];
     }
 }
 
-// The n words that follow a slot at index `at` moved down by a slot.
-fn move_down(s: &mut [u32], at: usize, n: usize)
-    requires inside { ⌜ at + slotWidth + n ≤ length (now s) ⌝ }
+// The n words from index `at + gap` on moved down to `at`.
+fn move_down(s: &mut [u32], at: usize, gap: usize, n: usize)
+    requires inside { ⌜ at + gap + n ≤ length (now s) ⌝ }
     ensures moved { λ r.
-        ⌜ now (s .exit) ≡ take at (now (s .entry)) ++ (take n (drop (at + slotWidth) (now (s .entry))) ++ drop (at + n) (now (s .entry))) ⌝ }
+        ⌜ now (s .exit) ≡ take at (now (s .entry)) ++ (take n (drop (at + gap) (now (s .entry))) ++ drop (at + n) (now (s .entry))) ⌝ }
 {
     let mut j = 0;
     while j < n {
-        s[at + j] = s[at + 32 + j];
+        s[at + j] = s[at + gap + j];
         j += 1;
     }
 }
 
-// Slot i cleared.
-pub fn clear_slot(s: &mut [u32], i: usize)
-    requires inside { ⌜ i < slotsIn (length (now s)) ⌝ }
-    ensures cleared { λ r. ⌜ now (s .exit) ≡ written i (replicate slotWidth 0) (now (s .entry)) ⌝ }
+// c slots from i on cleared.
+pub fn clear_slots(s: &mut [u32], i: usize, c: usize)
+    requires inside { ⌜ i + c ≤ slotsIn (length (now s)) ⌝ }
+    ensures cleared { λ r. ⌜ now (s .exit) ≡ cleared c i (now (s .entry)) ⌝ }
 {
     let at = 32 * i;
+    let n = 32 * c;
     let mut j = 0;
-    while j < 32 {
+    while j < n {
         s[at + j] = 0;
         j += 1;
     }
 }
 
-// Slots after i, of n in use, moved down by one, and the last of them cleared.
-pub fn close_slot(s: &mut [u32], i: usize, n: usize)
-    requires order { ⌜ i < n ⌝ }
+// Slots from i + c on, of n in use, moved down by c, and the last c of them cleared.
+pub fn close_slots(s: &mut [u32], i: usize, n: usize, c: usize)
+    requires order { ⌜ i + c ≤ n ⌝ }
     requires inside { ⌜ n ≤ slotsIn (length (now s)) ⌝ }
-    ensures closed { λ r. ⌜ now (s .exit) ≡ closed i n (now (s .entry)) ⌝ }
+    ensures closed { λ r. ⌜ now (s .exit) ≡ closed c i n (now (s .entry)) ⌝ }
 {
-    move_down(s, 32 * i, 32 * (n - 1 - i));
-    clear_slot(s, n - 1);
+    let left = n - c;
+    move_down(s, 32 * i, 32 * c, 32 * (left - i));
+    clear_slots(s, left, c);
+}
+
+// The slots after the n from i on, of `used` in use, moved so that m have room there.
+pub fn resize(s: &mut [u32], i: usize, n: usize, m: usize, used: usize)
+    requires order { ⌜ i + n ≤ used ⌝ }
+    requires inside { ⌜ used ≤ slotsIn (length (now s)) ⌝ }
+    requires room { ⌜ used + m ≤ slotsIn (length (now s)) + n ⌝ }
+    ensures resized { λ r. ⌜ now (s .exit) ≡ resized i n m used (now (s .entry)) ⌝ }
+{
+    if n <= m {
+        open_slots(s, i + n, used, m - n);
+        return;
+    }
+    close_slots(s, i + m, used, n - m);
 }

@@ -1,8 +1,8 @@
 // Scanning words for zeros.
 ghost use mathlib.Core.Path.{_≡_};
-ghost use Prim.Native.Nat.{_-_, _≤_};
+ghost use Prim.Native.Nat.{_-_, _≤_, _<_};
 ghost use lib.ListN.{length, take, drop};
-ghost use Rattle.store.specs.Slots.{slotsIn, allZero, isZeroFrom};
+ghost use Rattle.store.specs.Slots.{slotWidth, slotsIn, slotAt, allZero, isZeroFrom};
 use crate::slot::slot_count;
 
 // Whether the words from `from` up to `to` are zero. It reads them all: a loop that stops at the first other word is not vectorised.
@@ -20,6 +20,15 @@ pub fn all_zero(s: &[u32], from: usize, to: usize) -> bool
         i += 1;
     }
     ok
+}
+
+// Whether the words of slot i from j on are zero.
+pub fn rest_zero(s: &[u32], i: usize, j: usize) -> bool
+    requires inside { ⌜ i < slotsIn (length (now s)) ⌝ }
+    requires within { ⌜ j ≤ slotWidth ⌝ }
+    ensures zero { λ r. ⌜ r ≡ allZero (drop j (slotAt i (now (s .entry)))) ⌝ }
+{
+    all_zero(s, 32 * i + j, 32 * i + 32)
 }
 
 // Whether the slots from n on are zero.

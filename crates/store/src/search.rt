@@ -2,10 +2,12 @@
 ghost use mathlib.Core.Path.{_≡_};
 ghost use mathlib.Core.Bool.{true};
 ghost use mathlib.Core.List.{[], _∷_};
-ghost use Prim.Native.Nat.{_≤_};
+ghost use Prim.Native.Nat.{_≤_, _<_};
 ghost use lib.ListN.{length};
 ghost use Rattle.store.specs.Slots.{held, packed, placeOf};
+ghost use Rattle.store.specs.Found.{foundAt};
 use crate::slot::slot_count;
+use crate::slot::stands_at;
 use crate::slot::stands_before;
 use crate::slot::word;
 
@@ -26,6 +28,28 @@ pub fn lower_bound(s: &[u32], a: u32, b: u32, c: u32, d: u32) -> usize
         }
     }
     lo
+}
+
+// Where a slot stands: its index, or where it would be inserted.
+pub enum Found {
+    There(usize),
+    Absent(usize),
+}
+
+// Where a slot stands that is looked for by its first four words. The first of them is not 0, as no free slot is to be found.
+pub fn find_slot(s: &[u32], a: u32, b: u32, c: u32, d: u32) -> Found
+    requires packed { ⌜ packed (now s) ≡ true ⌝ }
+    requires in_use { ⌜ 0 < a ⌝ }
+    ensures found { λ r. ⌜ r ≡ foundAt (a ∷ b ∷ c ∷ d ∷ []) (held (now (s .entry))) ⌝ }
+{
+    let i = lower_bound(s, a, b, c, d);
+    if slot_count(s) <= i {
+        return Found::Absent(i);
+    }
+    if stands_at(s, i, a, b, c, d) {
+        return Found::There(i);
+    }
+    Found::Absent(i)
 }
 
 // How many slots are in use.

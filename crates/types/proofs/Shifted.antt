@@ -1,10 +1,14 @@
 -- Shifted indexes: what a word of one stands for.
-use mathlib.Core.Path.{_≡_, refl}
+use mathlib.Core.Path.{_≡_, refl, _∙_, ap}
 use Prim.Native.Nat.{ℕ, zero, suc, _-_, _<_, _≤_}
 use native.Mathlib.Numerals.{add-one}
 use native.Mathlib.Omega.{arith}
-use Rattle.types.specs.Index.{shift, indexOf}
+use Rattle.types.specs.Index.{shift, shiftedOf, wordOf, indexOf}
+use Rattle.types.specs.declared.index.ShiftedTxnIndex.{ShiftedTxnIndex}
 use Rattle.types.specs.declared.index.IndexOrStorage.the-variants.{Index, StorageVersion}
+
+pub shifted-word : (x : ShiftedTxnIndex) (index : ℕ) → x ≡ shiftedOf (shift index) → wordOf x ≡ suc index
+shifted-word x index e = ap wordOf e ∙ add-one index
 
 pub index-base : indexOf 0 ≡ StorageVersion
 unfolding indexOf

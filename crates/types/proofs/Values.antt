@@ -2,6 +2,7 @@
 use mathlib.Core.Path.{_≡_, refl, sym, ap, _∙_}
 use mathlib.Core.Bool.{Bool, true, false, not, _||_}
 use mathlib.Core.List.{List, [], _∷_}
+use mathlib.Core.Option.{Option, none, some}
 use Prim.Native.Nat.{ℕ, zero, suc, _+_, _/_, _%_, _^_, _≤_, _<_}
 use native.Mathlib.Nat.{add-zero, zero-add, suc-add}
 use native.Mathlib.Omega.{arith}
@@ -16,9 +17,10 @@ use Rattle.number.specs.Words.{AreWords, digits, valueOfWords}
 use Rattle.number.proofs.Digits.{length-digits, words-digits, digits-value, value-four, words-take, words-drop}
 use Rattle.number.proofs.Stores.{sets-part}
 use Rattle.number.proofs.Halves.{valueOf-numberOf, numberOf-valueOf, value-below}
-use Rattle.types.specs.Value.{valueWidth, valueAt, writeOpKind, isCreation, isDeletion, isExchanged, byteLength, layoutOf, numberWords, hasNumber, numberIn, bytesLen, valueOk}
+use Rattle.types.specs.Value.{valueWidth, valueAt, writeOpKind, isCreation, isDeletion, isExchanged, byteLength, layoutOf, numberWords, hasNumber, numberIn, bytesLen, sameLength, sameBytes, valueOk}
 use Rattle.types.specs.ValueWithLayout.{valueOf, wordsOf, lengthAnswer, bytesLenOf, asU128Of, Fits}
 use Rattle.types.specs.declared.value.ValueWithLayout.{ValueWithLayout}
+use Rattle.types.specs.declared.value.BytesLen.{BytesLen}
 use Rattle.types.specs.declared.value.BytesLen.the-variants.{Length, NoBytes}
 use Rattle.types.specs.declared.value.AsU128.the-variants.{Deleted, Value, NotANumber}
 
@@ -184,6 +186,24 @@ module _ (ws : List ℕ) where
   pub u128-none : isDeletion ws ≡ false → hasNumber ws ≡ false → NotANumber ≡ asU128Of ws
   unfolding asU128Of
   u128-none d h = rw (d, h)
+
+-- two lengths as the code compares them
+abbrev pub sameAnswer : BytesLen → BytesLen → Bool
+sameAnswer NoBytes NoBytes = true
+sameAnswer NoBytes (Length n) = false
+sameAnswer (Length m) NoBytes = false
+sameAnswer (Length m) (Length n) = eqb m n
+
+same-lengths : (o q : Option ℕ) → sameAnswer (lengthAnswer o) (lengthAnswer q) ≡ sameLength o q
+unfolding lengthAnswer sameLength
+same-lengths none none = refl
+same-lengths none (some n) = refl
+same-lengths (some m) none = refl
+same-lengths (some m) (some n) = refl
+
+pub bytes-same : (v w : List ℕ) (n m : BytesLen) → n ≡ bytesLenOf v → m ≡ bytesLenOf w → sameAnswer n m ≡ sameBytes v w
+unfolding bytesLenOf sameBytes
+bytes-same v w n m e f = rw (e, f) (same-lengths (bytesLen v) (bytesLen w))
 
 pub number-field : (v : ValueWithLayout) → Halves (v .number) → v .number ≡ numberOf (numberIn (wordsOf v))
 number-field v h = sym (ap numberOf (words-number v h) ∙ numberOf-valueOf (v .number) h)

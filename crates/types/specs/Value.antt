@@ -52,6 +52,16 @@ numberIn v = valueOfWords (numberWords v)
 unfoldable pub bytesLen : List ℕ → Option ℕ
 bytesLen v = cond (isDeletion v) none (some (byteLength v))
 
+-- "lengths equal, deletion matching only deletion"
+unfoldable pub sameLength : Option ℕ → Option ℕ → Bool
+sameLength none none = true
+sameLength none (some n) = false
+sameLength (some m) none = false
+sameLength (some m) (some n) = eqb m n
+
+unfoldable pub sameBytes : List ℕ → List ℕ → Bool
+sameBytes v w = sameLength (bytesLen v) (bytesLen w)
+
 -- The rule of a value's fields: a kind, a length, raw without layout, a deletion without length, and no number but where there is one.
 unfoldable pub valueOk : List ℕ → Bool
 valueOk v =

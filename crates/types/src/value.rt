@@ -8,7 +8,7 @@ ghost use Prim.Native.Nat.{_+_, _≤_};
 ghost use lib.Dec.{eqb};
 ghost use lib.ListN.{length};
 ghost use lib.Seq.{sets};
-ghost use Rattle.types.specs.Value.{valueWidth, valueAt, writeOpKind, isCreation, isDeletion, isExchanged, byteLength, layoutOf, hasNumber, numberIn, valueOk};
+ghost use Rattle.types.specs.Value.{valueWidth, valueAt, writeOpKind, isCreation, isDeletion, isExchanged, byteLength, layoutOf, hasNumber, numberIn, sameBytes, valueOk};
 ghost use Rattle.types.specs.WriteOpKind.{kindOf};
 ghost use Rattle.types.specs.ValueWithLayout.{valueOf, wordsOf, bytesLenOf, asU128Of};
 
@@ -121,6 +121,32 @@ impl ValueWithLayout {
             return BytesLen::NoBytes;
         }
         BytesLen::Length(self.byte_length())
+    }
+
+    // The lengths of bytes are compared in place of the bytes; what has none is like only what has none.
+    pub fn same_bytes(self, other: ValueWithLayout) -> bool
+        ensures same { λ r. ⌜ r ≡ sameBytes (wordsOf self) (wordsOf other) ⌝ }
+    {
+        let n = self.bytes_len();
+        let m = other.bytes_len();
+        match n {
+            BytesLen::NoBytes => match m {
+                BytesLen::NoBytes => {
+                    return true;
+                }
+                BytesLen::Length(_) => {
+                    return false;
+                }
+            },
+            BytesLen::Length(x) => match m {
+                BytesLen::NoBytes => {
+                    return false;
+                }
+                BytesLen::Length(y) => {
+                    return x == y;
+                }
+            },
+        }
     }
 
     fn has_number(self) -> bool

@@ -3,15 +3,11 @@
 use mathlib.Core.Path.{_≡_, refl}
 use mathlib.Core.Bool.{Bool, true, false, cond, not, _&&_}
 use mathlib.Core.List.{List}
-use mathlib.Core.Option.{Option, none, some}
 use Prim.Native.Nat.{ℕ}
 use native.Mathlib.Omega.{arith}
 use lib.Dec.{eqb}
-use Rattle.types.specs.Value.{layoutOf, isExchanged, bytesLen}
-use Rattle.types.specs.ValueWithLayout.{lengthAnswer, bytesLenOf}
-use Rattle.types.specs.declared.value.BytesLen.{BytesLen}
-use Rattle.types.specs.declared.value.BytesLen.the-variants.{Length, NoBytes}
-use Rattle.model.specs.Data.{sameLength, sameBytes, sameExchanged}
+use Rattle.types.specs.Value.{layoutOf, isExchanged, sameBytes}
+use Rattle.model.specs.Data.{sameExchanged}
 use Rattle.versioned_data.specs.Base.{keptIf, overBase}
 use Rattle.versioned_data.specs.declared.base.Base.{Base}
 use Rattle.versioned_data.specs.declared.base.Base.the-variants.{Keep, Set, Differs}
@@ -24,25 +20,7 @@ pub kept-other : (b : Bool) → b ≡ false → Differs ≡ keptIf b
 unfolding keptIf
 kept-other b e = rw e
 
--- two lengths as the code compares them
-abbrev pub sameAnswer : BytesLen → BytesLen → Bool
-sameAnswer NoBytes NoBytes = true
-sameAnswer NoBytes (Length n) = false
-sameAnswer (Length m) NoBytes = false
-sameAnswer (Length m) (Length n) = eqb m n
-
-same-lengths : (o q : Option ℕ) → sameAnswer (lengthAnswer o) (lengthAnswer q) ≡ sameLength o q
-unfolding lengthAnswer sameLength
-same-lengths none none = refl
-same-lengths none (some n) = refl
-same-lengths (some m) none = refl
-same-lengths (some m) (some n) = refl
-
 module _ (v w : List ℕ) where
-  pub bytes-same : (n m : BytesLen) → n ≡ bytesLenOf v → m ≡ bytesLenOf w → sameAnswer n m ≡ sameBytes v w
-  unfolding bytesLenOf sameBytes
-  bytes-same n m e f = rw (e, f) (same-lengths (bytesLen v) (bytesLen w))
-
   module _ (x : Bool) (e : x ≡ not (eqb (layoutOf v) 0)) (y : Bool) (f : y ≡ not (eqb (layoutOf w) 0)) where
     pub exchanged-layout : x ≡ true → y ≡ sameExchanged v w
     unfolding sameExchanged

@@ -7,21 +7,22 @@ use mathlib.Core.Option.{Option, none, some}
 use Prim.Native.Nat.{ℕ, _+_, _-_, _*_, _≤_, _<_}
 use native.Mathlib.Omega.{arith}
 use lib.Dec.{ltb, eqb}
-use lib.ListN.{length, getD, replicate, List·getD-append}
+use lib.ListN.{length, getD}
 use lib.Seq.{ext-getD, getD-append-add}
 use Rattle.delta.specs.Delta.{Delta}
-use Rattle.types.specs.Value.{valueAt, valueWidth, isExchanged}
+use Rattle.types.specs.Value.{valueAt, valueWidth, isExchanged, sameBytes}
 use Rattle.types.proofs.Values.{length-valueAt, getD-valueAt}
-use Rattle.store.specs.Slots.{slotWidth}
-use Rattle.store.proofs.Words.{slot-inside}
+use Rattle.store.specs.Slots.{slotWidth, padded}
+use Rattle.store.specs.Found.{foundOf}
+use Rattle.store.proofs.Words.{slot-inside, getD-padded}
 use Rattle.model.specs.Rows.{every, isAt, find}
-use Rattle.model.specs.Data.{Cell, write, delta, Entry, sameBytes, sameExchanged, unlessDiffers, baseOver, baseOnto, setBaseValue, yields, mayWrite}
+use Rattle.model.specs.Data.{Cell, write, delta, Entry, sameExchanged, unlessDiffers, baseOver, baseOnto, setBaseValue, yields, mayWrite}
 use Rattle.model.specs.Fine.{fineCell, fineEntry, isWord}
 use Rattle.model.proofs.Lists.{and-left, and-right, every-keep}
 use Rattle.model.specs.Rows.{rank, rowAt}
 use Rattle.model.proofs.Places.{at-present}
-use Rattle.versioned_data.specs.Layout.{padded, formOf, flagOf, bodyOf, slotOf, entriesIn, dataValid}
-use Rattle.versioned_data.specs.Found.{foundOf, foundIn, mayPut}
+use Rattle.versioned_data.specs.Layout.{formOf, flagOf, bodyOf, slotOf, entriesIn, dataValid}
+use Rattle.versioned_data.specs.Found.{foundIn, mayPut}
 use Rattle.versioned_data.specs.Base.{keptIf, overBase, baseAt, baseRuling}
 use Rattle.model.proofs.Walk.{write-value, value-length}
 use Rattle.versioned_data.proofs.Holding.{rising-valid, every-valid}
@@ -64,15 +65,11 @@ module _ (s : List ℕ) (v : dataValid s ≡ true) (k p : ℕ) where
       and-right (isWord k && isWord p) (fineCell p (b .estimate) (b .cell)) (and-left (fineEntry (rowAt k p b)) true all)
 
 -- the value of a write stands in the slot's words from 7 on
-value-padded : (a b c d e f i : ℕ) (w : List ℕ) (j : ℕ) → j < length w → getD (padded (a ∷ b ∷ c ∷ d ∷ e ∷ f ∷ i ∷ w)) (7 + j) 0 ≡ getD w j 0
-unfolding padded
-value-padded a b c d e f i w j h =
-    getD-append-add (a ∷ b ∷ c ∷ d ∷ e ∷ f ∷ i ∷ []) (w ++ replicate (slotWidth - length (a ∷ b ∷ c ∷ d ∷ e ∷ f ∷ i ∷ w)) 0) j 0
-    ∙ List·getD-append w (replicate (slotWidth - length (a ∷ b ∷ c ∷ d ∷ e ∷ f ∷ i ∷ w)) 0) 0 j h
-
 slot-value : (k p i : ℕ) (w : List ℕ) (b : Entry) (j : ℕ) → b .cell ≡ write i w → j < length w → getD (slotOf (rowAt k p b)) (7 + j) 0 ≡ getD w j 0
 unfolding slotOf rowAt bodyOf
-slot-value k p i w b j e h = rw e (value-padded 1 k p 0 (formOf (write i w)) (flagOf (b .estimate)) i w j h)
+slot-value k p i w b j e h =
+    let head : List ℕ = 1 ∷ k ∷ p ∷ 0 ∷ formOf (write i w) ∷ flagOf (b .estimate) ∷ i ∷ [] in
+    rw e (getD-padded (head ++ w) (7 + j) (omega arith) ∙ getD-append-add head w j 0)
 
 module _ (s : List ℕ) (v : dataValid s ≡ true) (k p : ℕ) (b : Entry) (e : find k p (entriesIn s) ≡ some b) where
   pub value-valid : (i : ℕ) (w : List ℕ) → b .cell ≡ write i w → valueAt (slotWidth * rank k p (entriesIn s) + 7) s ≡ w

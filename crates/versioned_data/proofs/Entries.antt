@@ -1,29 +1,30 @@
 -- An entry and its slot are one, and slots rise as their entries do.
 -- Assumes nothing.
 use mathlib.Core.Path.{_≡_, refl, sym, _∙_, ap, ap₂}
-use mathlib.Core.Bool.{Bool, true, false, cond, not, _&&_, _||_}
+use mathlib.Core.Bool.{Bool, true, false, _&&_, _||_}
 use mathlib.Core.List.{List, [], _∷_, _++_, map, append-assoc}
-use mathlib.Core.Option.{Option, none, some}
-use Prim.Native.Nat.{ℕ, zero, suc, _+_, _-_, _≤_, _<_}
+use mathlib.Core.Option.{none, some}
+use Prim.Native.Nat.{ℕ, suc, _+_, _-_, _≤_}
 use native.Mathlib.Omega.{arith}
-use lib.Dec.{leb, ltb, eqb}
-use lib.ListN.{length, getD, take, drop, replicate, length-append, length-replicate, length-map}
+use lib.Dec.{ltb, eqb}
+use lib.ListN.{length, take, drop, replicate, length-append}
 use lib.Seq.{take-at, drop-at}
-use borrow.Author.Tests.{ltb-true, leb-true, eqb-true, eqb-false, eq-eqb, ne-eqb}
+use borrow.Author.Tests.{ltb-true, eqb-true, eqb-false, eq-eqb, ne-eqb}
 use Rattle.number.specs.Number.{range}
 use Rattle.number.specs.Words.{digits, valueOfWords}
 use Rattle.number.proofs.Digits.{length-digits, value-four}
 use Rattle.delta.specs.Delta.{Delta, valid, deltaAt, deltaWords}
 use Rattle.delta.proofs.Format.{length-deltaWords, valid-small, deltaAt-deltaWords}
-use Rattle.types.specs.Value.{valueAt, valueWidth, valueOk, isExchanged}
+use Rattle.types.specs.Value.{valueAt, valueWidth}
 use Rattle.store.specs.Slots
-use Rattle.store.specs.Slots.{Slot, slotWidth, isWhole, isUsed, before, isBefore, ordered}
+use Rattle.store.specs.Slots.{slotWidth, isWhole, isUsed, before, isBefore, ordered, padded}
+use Rattle.store.proofs.Words.{padded-whole}
 use Rattle.model.specs.Rows.{Row, every, rising, isBelow, isAbove}
 use Rattle.model.specs.Data.{Cell, write, delta, Entry}
-use Rattle.model.specs.Fine.{isWord, isNumber, fineValue, fineDelta, fineShortcut, fineCell, fineEntry}
+use Rattle.model.specs.Fine.{isNumber, fineDelta, fineShortcut, fineCell, fineEntry}
 use Rattle.model.proofs.Walk.{value-length, write-value, delta-delta, delta-shortcut, entry-cell}
 use Rattle.model.proofs.Lists.{and-left, and-right, and-both}
-use Rattle.versioned_data.specs.Layout.{padded, formOf, flagOf, bodyOf, slotOf, cellOf, entryOf}
+use Rattle.versioned_data.specs.Layout.{formOf, flagOf, bodyOf, slotOf, cellOf, entryOf}
 
 pub delta-words-back : (d : Delta) → fineDelta d ≡ true → deltaAt (deltaWords d) ≡ d
 unfolding fineDelta isNumber
@@ -41,11 +42,6 @@ body-length place estimate (write i v) h = omega (arith, value-length v (write-v
 body-length place estimate (delta d none) h = omega (arith, delta-words-length d)
 body-length place estimate (delta d (some n)) h =
     omega (arith, length-append (deltaWords d) (digits 4 n), delta-words-length d, length-digits 4 n)
-
-pub padded-whole : (ws : List ℕ) → length ws ≤ slotWidth → length (padded ws) ≡ slotWidth
-unfolding padded
-padded-whole ws h =
-    omega (arith, length-append ws (replicate (slotWidth - length ws) 0), length-replicate (slotWidth - length ws) (let z : ℕ = 0 in z))
 
 pub slot-whole : (r : Row Entry) → fineEntry r ≡ true → isWhole (slotOf r) ≡ true
 unfolding isWhole slotOf

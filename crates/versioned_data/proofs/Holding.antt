@@ -1,39 +1,22 @@
 -- A valid store and the entries that it holds are one; positions in its words are positions among the entries.
 -- Assumes nothing.
-use mathlib.Core.Path.{_≡_, refl, sym, _∙_, ap, ap₂}
-use mathlib.Core.Bool.{Bool, true, false, cond, not, _&&_, _||_}
-use mathlib.Core.List.{List, [], _∷_, _++_, map}
-use mathlib.Core.Option.{Option, none, some}
-use Prim.Native.Nat.{ℕ, zero, suc, _+_, _-_, _*_, _≤_, _<_}
-use native.Mathlib.Omega.{arith}
-use lib.Dec.{leb, ltb, eqb}
-use lib.ListN.{length, getD, set, take, drop, length-map, List·getD-map}
-use borrow.Author.Tests.{eqb-true, eq-eqb}
+use mathlib.Core.Path.{_≡_, refl, sym, _∙_, ap}
+use mathlib.Core.Bool.{Bool, true, false}
+use mathlib.Core.List.{List, [], _∷_, map}
+use Prim.Native.Nat.{ℕ, _-_, _≤_}
+use lib.ListN.{length, take, length-map}
 use Rattle.store.specs.Slots
-use Rattle.store.specs.Slots.{Slot, slotWidth, slotsIn, encode, held, isWhole, isUsed, before, isBefore, ordered, packed, placeOf}
+use Rattle.store.specs.Slots.{slotsIn, held, isWhole, before, packed, placeOf, sameWords}
+use Rattle.store.proofs.Lists.{same-words, words-same}
 use Rattle.store.proofs.Encode.{held-encode, packed-encode, length-encode, encode-encode, held-fits}
-use Rattle.model.specs.Rows.{Row, keep, every, rising, isBelow, isAt, isAbove, find, put, erase}
+use Rattle.model.specs.Rows.{Row, keep, every, rising, isBelow, isAbove}
 use Rattle.model.specs.Data.{Entry}
 use Rattle.model.specs.Fine.{fineEntry, fineEntries}
-use Rattle.model.proofs.Lists.{and-left, and-right, and-both, keep-none, every-imp}
+use Rattle.model.proofs.Lists.{and-left, and-right, keep-none, every-imp}
 use Rattle.model.proofs.Rows.{Side, lower, here, upper, side, above-not-below, at-above, above-above}
 use Rattle.model.specs.Rows.{rank}
-use Rattle.versioned_data.specs.Layout.{slotOf, entryOf, entriesIn, holding, sameWords, dataValid}
+use Rattle.versioned_data.specs.Layout.{slotOf, entryOf, entriesIn, holding, dataValid}
 use Rattle.versioned_data.proofs.Entries.{slot-below, slots-whole, slots-used, entries-back, slots-ordered}
-
-pub same-words : (xs ys : List ℕ) → sameWords xs ys ≡ true → xs ≡ ys
-unfolding sameWords
-same-words [] [] h = refl
-same-words [] (y ∷ ys) h = absurd (let z : _≡_ {A = ℕ} 0 1 = cc in omega arith)
-same-words (x ∷ xs) [] h = absurd (let z : _≡_ {A = ℕ} 0 1 = cc in omega arith)
-same-words (x ∷ xs) (y ∷ ys) h =
-    ap₂ (λ (w : ℕ) (l : List ℕ). w ∷ l) (eqb-true x y (and-left (eqb x y) (sameWords xs ys) h))
-    (same-words xs ys (and-right (eqb x y) (sameWords xs ys) h))
-
-pub words-same : (xs : List ℕ) → sameWords xs xs ≡ true
-unfolding sameWords
-words-same [] = refl
-words-same (x ∷ xs) = and-both (eqb x x) (sameWords xs xs) (eq-eqb x x refl) (words-same xs)
 
 pub fine-rising : (rs : List (Row Entry)) → fineEntries rs ≡ true → rising rs ≡ true
 unfolding fineEntries

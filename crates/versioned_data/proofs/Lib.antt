@@ -19,3 +19,4 @@ pub mod Descent
 pub mod Bounds
 pub mod Shortcuts
 pub mod Histories
+pub mod Folds

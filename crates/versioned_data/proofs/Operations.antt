@@ -4,34 +4,31 @@ use mathlib.Core.Path.{_≡_, refl, sym, _∙_, ap}
 use mathlib.Core.Bool.{Bool, true, false, not}
 use mathlib.Core.List.{List}
 use mathlib.Core.Option.{Option, none}
-use Prim.Native.Nat.{ℕ, suc, _+_, _*_, _≤_, _<_}
+use Prim.Native.Nat.{ℕ, _+_, _*_, _≤_, _<_}
 use native.Mathlib.Omega.{arith}
-use native.Mathlib.Numerals.{add-one}
 use lib.ListN.{length, set}
 use Rattle.delta.specs.Delta.{Delta}
-use Rattle.types.specs.Index.{shift, shiftedOf, wordOf}
+use Rattle.types.specs.Index.{shiftedOf, wordOf}
 use Rattle.types.specs.declared.index.ShiftedTxnIndex.{ShiftedTxnIndex}
 use Rattle.store.specs.Slots.{Slot, slotWidth, slotsIn, held, closed}
+use Rattle.store.specs.Found.{isAmong}
 use Rattle.store.proofs.Encode.{held-fits}
 use Rattle.model.specs.Rows.{find, Edit, leave}
 use Rattle.model.specs.Rows
 use Rattle.model.specs.Data.{Entry, Ruling, refuse, accept, done, doneAnswer, write, delta, mayWrite, writeValue, addDelta, markEstimate, remove, setBaseValue}
 use Rattle.model.specs.Rows.{rowAt}
 use Rattle.versioned_data.specs.Layout.{slotOf, entriesIn, dataValid}
-use Rattle.versioned_data.specs.Found.{foundIn, isAmong, mayPut, Put}
+use Rattle.versioned_data.specs.Found.{foundIn, mayPut, Put}
 use Rattle.versioned_data.specs.Base.{baseAt, baseRuling}
 use Rattle.versioned_data.specs.Edited.{Edited}
-use Rattle.versioned_data.specs.declared.find.Found.{Found}
-use Rattle.versioned_data.specs.declared.find.Found.the-variants.{There, Absent}
+use Rattle.store.specs.declared.search.Found.{Found}
+use Rattle.store.specs.declared.search.Found.the-variants.{There, Absent}
 use Rattle.versioned_data.specs.declared.base.Base.{Base}
 use Rattle.versioned_data.specs.declared.base.Base.the-variants.{Keep, Set, Differs}
 use Rattle.versioned_data.proofs.Finding.{among-valid}
 use Rattle.versioned_data.proofs.Putting.{there-words}
 use Rattle.versioned_data.proofs.Rulings.{edited-refused, edited-left, edited-put, edited-marked, edited-removed, absent-has, there-lt}
 use Rattle.versioned_data.proofs.Contents.{may-valid, base-valid}
-
-pub shifted-word : (x : ShiftedTxnIndex) (index : ℕ) → x ≡ shiftedOf (shift index) → wordOf x ≡ suc index
-shifted-word x index e = ap wordOf e ∙ add-one index
 
 pub base-word : (x : ShiftedTxnIndex) → x ≡ shiftedOf 0 → wordOf x ≡ 0
 base-word x e = ap wordOf e
@@ -111,11 +108,11 @@ module _ (s : List ℕ) (v : dataValid s ≡ true) (k q p : ℕ) (place : q ≡ 
     remove-refused e = edited-refused s k p remove 6 s 6 (remove-none (find k p (entriesIn s)) (absent-has s k p i (sym e ∙ found-at))) refl refl
 
     module _ (e : f ≡ There i) (n : ℕ) (count : n ≡ length (held s)) where
-      pub remove-room : (i < n) × (n ≤ slotsIn (length s))
+      pub remove-room : (i + 1 ≤ n) × (n ≤ slotsIn (length s))
       remove-room = (omega (arith, count, there-lt s v k p i (sym e ∙ found-at)), omega (arith, count, held-fits s))
 
-      pub remove-done : (after : List ℕ) → after ≡ closed i n s → Edited s k p remove 0 after
-      remove-done after g = edited-removed s v k p i (sym e ∙ found-at) 0 after refl (g ∙ ap (λ (m : ℕ). closed i m s) count)
+      pub remove-done : (after : List ℕ) → after ≡ closed 1 i n s → Edited s k p remove 0 after
+      remove-done after g = edited-removed s v k p i (sym e ∙ found-at) 0 after refl (g ∙ ap (λ (m : ℕ). closed 1 i m s) count)
 
 -- A base's shifted index is 0.
 module _ (s : List ℕ) (v : dataValid s ≡ true) (k q : ℕ) (place : q ≡ 0) (f : Found) (found : f ≡ foundIn s k q) (value : List ℕ) (b : Base) (base : b ≡ baseAt value f s) where

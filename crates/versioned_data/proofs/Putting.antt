@@ -18,16 +18,17 @@ use Rattle.types.specs.Value.{valueAt, valueWidth}
 use Rattle.types.specs.ValueWithLayout.{valueOf, wordsOf}
 use Rattle.types.specs.declared.value.ValueWithLayout.{ValueWithLayout}
 use Rattle.types.proofs.Values.{length-valueAt, words-read}
-use Rattle.store.specs.Slots.{Slot, slotWidth, slotsIn, held, opened, written}
+use Rattle.store.specs.Slots.{Slot, slotWidth, slotsIn, held, opened, written, padded}
+use Rattle.store.specs.Found.{isAmong}
 use Rattle.store.proofs.Encode.{held-fits}
 use Rattle.store.proofs.Words.{slots-few, slot-inside}
 use Rattle.model.specs.Data.{write, delta, done}
 use Rattle.model.specs.Rows.{rowAt}
-use Rattle.versioned_data.specs.Layout.{padded, formOf, flagOf, bodyOf, slotOf}
-use Rattle.versioned_data.specs.Found.{isAmong, putResult, putWords, Put, mayPut}
+use Rattle.versioned_data.specs.Layout.{formOf, flagOf, bodyOf, slotOf}
+use Rattle.versioned_data.specs.Found.{putResult, putWords, Put, mayPut}
 use Rattle.versioned_data.specs.Base.{overBase, baseAt}
-use Rattle.versioned_data.specs.declared.find.Found.{Found}
-use Rattle.versioned_data.specs.declared.find.Found.the-variants.{There, Absent}
+use Rattle.store.specs.declared.search.Found.{Found}
+use Rattle.store.specs.declared.search.Found.the-variants.{There, Absent}
 use Rattle.versioned_data.specs.declared.base.Base.{Base}
 use Rattle.versioned_data.specs.declared.base.Base.the-variants.{Set}
 
@@ -83,7 +84,7 @@ slot-room s i h = (omega (arith, slots-few (length s)), slot-inside i (length s)
 pub there-words : (s : List ℕ) (f : Found) (i : ℕ) → isAmong (length (held s)) f ≡ true → f ≡ There i → (i < 4096) × (32 * i + 32 ≤ length s)
 there-words s f i a e = slot-room s i (there-room s f i a e)
 
-pub insert-room : (s : List ℕ) (i n m : ℕ) → n ≡ length (held s) → m ≡ slotsIn (length s) → i ≤ length (held s) → n < m → (x : List ℕ) → x ≡ opened i n s → length x ≡ length s → i < slotsIn (length x)
+pub insert-room : (s : List ℕ) (i n m : ℕ) → n ≡ length (held s) → m ≡ slotsIn (length s) → i ≤ length (held s) → n < m → (x : List ℕ) → x ≡ opened 1 i n s → length x ≡ length s → i < slotsIn (length x)
 insert-room s i n m count size h l x o e = rw e (omega (arith, count, size))
 
 -- A slot inserted, refused, or put over another.
@@ -94,11 +95,11 @@ module _ (s : List ℕ) (i : ℕ) (u : Slot) (n m : ℕ) (count : n ≡ length (
       let e : ltb (length (held s)) (slotsIn (length s)) ≡ false = le-ltb (length (held s)) (slotsIn (length s)) (omega (arith, count, size)) in
       record { result = rw e; words = rw e }
 
-  pub put-inserted : n < m → (x after : List ℕ) → x ≡ opened i n s → after ≡ written i u x → Put (Absent i) u s 0 after
+  pub put-inserted : n < m → (x after : List ℕ) → x ≡ opened 1 i n s → after ≡ written i u x → Put (Absent i) u s 0 after
   unfolding putResult putWords
   put-inserted h x after f g =
       let e : ltb (length (held s)) (slotsIn (length s)) ≡ true = lt-ltb (length (held s)) (slotsIn (length s)) (omega (arith, count, size)) in
-      record { result = rw e; words = rw e (g ∙ ap (written i u) (f ∙ ap (λ (j : ℕ). opened i j s) count)) }
+      record { result = rw e; words = rw e (g ∙ ap (written i u) (f ∙ ap (λ (j : ℕ). opened 1 i j s) count)) }
 
 module _ (s : List ℕ) (f : Found) (i : ℕ) where
   pub put-there : f ≡ There i → (u : Slot) (after : List ℕ) → after ≡ written i u s → Put f u s 0 after

@@ -2,27 +2,28 @@
 -- Assumes nothing.
 use mathlib.Core.Path.{_≡_, refl, sym, _∙_, ap}
 use mathlib.Core.Bool.{Bool, true, false, cond}
-use mathlib.Core.List.{List}
+use mathlib.Core.List.{List, [], _∷_}
 use mathlib.Core.Option.{Option, none, some}
 use Prim.Native.Nat.{ℕ, suc, _+_, _*_, _<_}
 use native.Mathlib.Omega.{arith}
 use lib.Dec.{leb, ltb}
 use lib.ListN.{length, set, length-set}
 use borrow.Author.Tests.{le-leb, ltb-true}
-use Rattle.store.specs.Slots.{Slot, slotWidth, slotsIn, held, opened, closed, written, inserted, removed}
-use Rattle.store.proofs.Edits.{length-inserted, length-removed}
+use Rattle.store.specs.Slots.{Slot, slotWidth, slotsIn, held, opened, closed, written}
+use Rattle.store.specs.Found.{foundOf}
+use Rattle.store.proofs.Runs.{length-spliced}
 use Rattle.model.specs.Rows.{find, put, erase, Edit, leave, clear, edited}
 use Rattle.model.specs.Rows
 use Rattle.model.specs.Data.{Entry, Ruling, refuse, accept, doneAnswer, markEstimate, remove}
 use Rattle.model.specs.Rows.{rank, rowAt}
-use Rattle.model.proofs.Places.{rank-le, put-absent, put-present, erase-present}
+use Rattle.model.proofs.Places.{rank-le, put-present}
 use Rattle.versioned_data.specs.Layout.{slotOf, entriesIn, holding, dataValid, fitsIn, resultOf, wordsAfter}
-use Rattle.versioned_data.specs.Found.{foundOf, foundIn, putResult, putWords, Put}
+use Rattle.versioned_data.specs.Found.{foundIn, putResult, putWords, Put}
 use Rattle.versioned_data.specs.Edited.{Edited}
-use Rattle.versioned_data.specs.declared.find.Found.{Found}
-use Rattle.versioned_data.specs.declared.find.Found.the-variants.{There, Absent}
+use Rattle.store.specs.declared.search.Found.{Found}
+use Rattle.store.specs.declared.search.Found.the-variants.{There, Absent}
 use Rattle.versioned_data.proofs.Holding.{holding-entries, rising-valid, few-valid}
-use Rattle.versioned_data.proofs.Edits.{inserted-valid, place-lt, replaced-valid, word-replaced-valid, erased-valid, slot-estimate}
+use Rattle.versioned_data.proofs.Edits.{put-spliced, erase-spliced, inserted-valid, place-lt, replaced-valid, word-replaced-valid, erased-valid, slot-estimate}
 use Rattle.versioned_data.proofs.Finding.{length-held-valid}
 
 -- An edit that fits is made, and one that does not is refused by 14.
@@ -41,11 +42,11 @@ module _ (s : List ℕ) (v : dataValid s ≡ true) (k p : ℕ) where
   fits-leave = le-leb (length (entriesIn s)) (slotsIn (length s)) (few-valid s v)
 
   fits-absent : (a : Entry) → find k p (entriesIn s) ≡ none → fitsIn s (edited k p (Rows.set a) (entriesIn s)) ≡ ltb (length (held s)) (slotsIn (length s))
-  unfolding fitsIn edited inserted
+  unfolding fitsIn edited
   fits-absent a e =
       let n : length (put k p a (entriesIn s)) ≡ suc (length (held s)) =
-      ap length (put-absent k p (entriesIn s) (rising-valid s v) a e)
-      ∙ length-inserted (rank k p (entriesIn s)) (entriesIn s) (rowAt k p a) (rank-le k p (entriesIn s) (rising-valid s v))
+      ap length (put-spliced s v k p a e)
+      ∙ length-spliced (rank k p (entriesIn s)) 0 (rowAt k p a ∷ []) (entriesIn s) (omega (arith, rank-le k p (entriesIn s) (rising-valid s v)))
       ∙ omega (arith, length-held-valid s v k p)
       in
       ap (λ (m : ℕ). leb m (slotsIn (length s))) n
@@ -58,10 +59,10 @@ module _ (s : List ℕ) (v : dataValid s ≡ true) (k p : ℕ) where
         (omega (arith, few-valid s v, ap length (put-present k p (entriesIn s) (rising-valid s v) b e a) ∙ length-set (entriesIn s) (rank k p (entriesIn s)) (rowAt k p a)))
 
     fits-clear : fitsIn s (edited k p clear (entriesIn s)) ≡ true
-    unfolding fitsIn edited removed
+    unfolding fitsIn edited
     fits-clear =
         le-leb (length (erase k p (entriesIn s))) (slotsIn (length s))
-        (omega (arith, few-valid s v, ap length (erase-present k p (entriesIn s) (rising-valid s v) b e) ∙ length-removed (rank k p (entriesIn s)) (entriesIn s) (place-lt s v k p b e)))
+        (omega (arith, few-valid s v, ap length (erase-spliced s v k p b e) ∙ length-spliced (rank k p (entriesIn s)) 1 [] (entriesIn s) (omega (arith, place-lt s v k p b e))))
 
 -- A slot put where the entry was found, as the ruling to set it there.
 module _ (s : List ℕ) (v : dataValid s ≡ true) (k p : ℕ) (answer : List ℕ) (a : Entry) where
@@ -78,10 +79,10 @@ module _ (s : List ℕ) (v : dataValid s ≡ true) (k p : ℕ) (answer : List �
   put-words = go (find k p (entriesIn s)) refl
     where
       free : find k p (entriesIn s) ≡ none → (f : Bool) → ltb (length (held s)) (slotsIn (length s)) ≡ f →
-          cond f (holding s (put k p a (entriesIn s))) s ≡ cond f (written (rank k p (entriesIn s)) (slotOf (rowAt k p a)) (opened (rank k p (entriesIn s)) (length (held s)) s)) s
+          cond f (holding s (put k p a (entriesIn s))) s ≡ cond f (written (rank k p (entriesIn s)) (slotOf (rowAt k p a)) (opened 1 (rank k p (entriesIn s)) (length (held s)) s)) s
       free e true f =
           sym
-          (ap (λ (n : ℕ). written (rank k p (entriesIn s)) (slotOf (rowAt k p a)) (opened (rank k p (entriesIn s)) n s)) (length-held-valid s v k p)
+          (ap (λ (n : ℕ). written (rank k p (entriesIn s)) (slotOf (rowAt k p a)) (opened 1 (rank k p (entriesIn s)) n s)) (length-held-valid s v k p)
           ∙ inserted-valid s v k p a e (omega (arith, length-held-valid s v k p, ltb-true (length (held s)) (slotsIn (length s)) f)))
       free e false f = refl
 
@@ -176,7 +177,7 @@ module _ (s : List ℕ) (v : dataValid s ≡ true) (k p i : ℕ) (t : There i �
           }
 
   -- the entry is removed
-  pub edited-removed : (r : ℕ) (after : List ℕ) → r ≡ 0 → after ≡ closed i (length (held s)) s → Edited s k p remove r after
+  pub edited-removed : (r : ℕ) (after : List ℕ) → r ≡ 0 → after ≡ closed 1 i (length (held s)) s → Edited s k p remove r after
   unfolding edited
   edited-removed r after f g = there-has s k p i (Edited s k p remove r after) t by
     where
@@ -186,8 +187,8 @@ module _ (s : List ℕ) (v : dataValid s ≡ true) (k p i : ℕ) (t : There i �
           record {
             result = f ∙ sym (ap (resultOf s k p) m ∙ result-fits s k p doneAnswer clear true (fits-clear s v k p b e));
             words =
-                g ∙ ap (λ (j : ℕ). closed j (length (held s)) s) h
-                ∙ ap (λ (n : ℕ). closed (rank k p (entriesIn s)) n s) (length-held-valid s v k p)
+                g ∙ ap (λ (j : ℕ). closed 1 j (length (held s)) s) h
+                ∙ ap (λ (n : ℕ). closed 1 (rank k p (entriesIn s)) n s) (length-held-valid s v k p)
                 ∙ erased-valid s v k p b e
                 ∙ sym (ap (wordsAfter s k p) m ∙ words-fit s k p doneAnswer clear true (fits-clear s v k p b e));
           }

@@ -3,11 +3,10 @@
 use mathlib.Core.Path.{_≡_, refl, sym, _∙_, ap}
 use mathlib.Core.Bool.{Bool, true, false, cond, not, _&&_}
 use mathlib.Core.List.{List}
-use Prim.Native.Nat.{ℕ, zero, suc, _+_, _-_, _*_, _≤_, _<_}
+use Prim.Native.Nat.{ℕ, zero, suc, _+_, _*_, _≤_, _<_}
 use native.Mathlib.Omega.{arith}
 use lib.Dec.{leb, eqb}
 use lib.ListN.{length, getD, take, drop}
-use lib.Seq.{drop-drop}
 use borrow.Author.Tests.{eq-eqb, ne-eqb, le-leb, lt-leb, not-true, not-false}
 use Rattle.number.specs.Words.{AreWords}
 use Rattle.number.proofs.Digits.{words-take, words-drop}
@@ -17,11 +16,10 @@ use Rattle.store.specs.Slots
 use Rattle.store.specs.Slots.{Slot, slotWidth, slotsIn, slotAt, held, packed, neighbours, isBefore, isZeroFrom, allZero, sound}
 use Rattle.store.proofs.Lists.{and-assoc, and-swap}
 use Rattle.store.proofs.Order.{ordered-is-neighbours}
-use Rattle.store.proofs.Words.{slot-inside, slotAt-word, length-slotAt}
+use Rattle.store.proofs.Words.{slot-inside, slotAt-part, slotAt-word, length-slotAt}
 use Rattle.versioned_data.specs.Layout.{dataValid, slotOk, bodyTest, slotTest}
 use Rattle.versioned_data.proofs.ValidSlots.{valid-slots}
 use Rattle.versioned_data.proofs.SlotTest.{slotOk-test}
-use Rattle.versioned_data.proofs.Positions.{drop-take, slotAt-part}
 
 -- the order of all slots is that of neighbours, so rule 5 is what a scan decides
 pub valid-sound : (s : List ℕ) → dataValid s ≡ sound slotOk isBefore s
@@ -52,13 +50,6 @@ three-last a b c r e f g = rw (e, f) g
 module _ (s : List ℕ) (i : ℕ) where
   word-is : (j x : ℕ) → j < slotWidth → x ≡ getD s (slotWidth * i + j) 0 → getD (slotAt i s) j 0 ≡ x
   word-is j x h e = slotAt-word i j s h ∙ sym e
-
-  -- the words of a slot from one on
-  pub rest-is : (j : ℕ) (r : Bool) → j ≤ slotWidth → r ≡ allZero (take (slotWidth * i + slotWidth - (slotWidth * i + j)) (drop (slotWidth * i + j) s)) → r ≡ allZero (drop j (slotAt i s))
-  unfolding slotAt
-  rest-is j r h e =
-      let n : slotWidth * i + slotWidth - (slotWidth * i + j) ≡ slotWidth - j = omega arith in
-      e ∙ rw (n, drop-take j slotWidth (drop (slotWidth * i) s) h, drop-drop j (slotWidth * i) s)
 
   -- ---- the head
 

@@ -24,7 +24,7 @@ use Rattle.types.specs.declared.index.ShiftedTxnIndex.{ShiftedTxnIndex}
 use Rattle.types.specs.declared.output.MVDataOutput as output
 use Rattle.types.specs.declared.output.MVDataOutput.the-variants as found
 use Rattle.store.specs.Slots
-use Rattle.store.specs.Slots.{Slot, slotWidth, slotsIn, encode, isWhole}
+use Rattle.store.specs.Slots.{Slot, slotWidth, slotsIn, encode, isWhole, padded}
 use Rattle.store.proofs.Lists.{every-at, every-set}
 use Rattle.store.proofs.Words.{whole-length, slot-inside}
 use Rattle.store.proofs.Words as words
@@ -36,13 +36,13 @@ use Rattle.model.specs.Fine.{fineRead}
 use Rattle.model.specs.Rows.{rank, rowAt}
 use Rattle.model.proofs.Places.{getD-rank, put-present}
 use Rattle.model.proofs.Walk.{readOf-downFrom-fine}
-use Rattle.versioned_data.specs.Layout.{padded, formOf, flagOf, bodyOf, slotOf, entriesIn, holding, dataValid, resultOf, wordsAfter}
+use Rattle.versioned_data.specs.Layout.{formOf, flagOf, bodyOf, slotOf, entriesIn, holding, dataValid, resultOf, wordsAfter}
 use Rattle.versioned_data.specs.Found.{foundIn}
 use Rattle.versioned_data.specs.Output.{refusalOf, outputOf}
 use Rattle.versioned_data.specs.Edited.{Edited}
 use Rattle.versioned_data.specs.Materialize.{answered, materializedOf, Materializes, shortcutIn}
-use Rattle.versioned_data.specs.declared.find.Found.{Found}
-use Rattle.versioned_data.specs.declared.find.Found.the-variants.{There, Absent}
+use Rattle.store.specs.declared.search.Found.{Found}
+use Rattle.store.specs.declared.search.Found.the-variants.{There, Absent}
 use Rattle.versioned_data.specs.declared.materialize.Materialized.{Materialized}
 use Rattle.versioned_data.specs.declared.materialize.Materialized.the-variants.{Refused, Resolved, Unresolved}
 use Rattle.versioned_data.proofs.Holding.{holding-entries, rising-valid, every-valid}

@@ -1,31 +1,30 @@
 -- The scan's test of a slot, word by word, is that it is the slot of a fine entry.
 -- Assumes nothing.
-use mathlib.Core.Path.{_≡_, refl, sym, _∙_, ap, ap₂}
-use mathlib.Core.Bool.{Bool, true, false, cond, not, _&&_, _||_}
+use mathlib.Core.Path.{_≡_, refl, sym, _∙_, ap}
+use mathlib.Core.Bool.{Bool, true, false, cond, not, _&&_}
 use mathlib.Core.List.{List, [], _∷_, _++_, append-assoc}
-use mathlib.Core.Option.{Option, none, some}
+use mathlib.Core.Option.{none, some}
 use Prim.Native.Nat.{ℕ, zero, suc, _+_, _-_, _≤_, _<_, _^_}
 use native.Mathlib.Omega.{arith}
 use lib.Dec.{leb, ltb, eqb}
-use lib.ListN.{length, getD, take, drop, replicate, take-append-drop, length-drop, length-append}
-use borrow.Author.Tests.{ltb-true, leb-true, eqb-true, eqb-false, lt-ltb, le-leb, lt-leb, eq-eqb, ne-eqb}
+use lib.ListN.{length, take, drop, replicate, take-append-drop, length-drop, length-append}
+use borrow.Author.Tests.{ltb-true, leb-true, eqb-true, lt-ltb, lt-leb, eq-eqb, ne-eqb}
 use lib.Seq.{length-take-le, take-add, take-at, drop-at}
 use Rattle.number.specs.Number.{range}
 use Rattle.number.specs.Words.{digits, valueOfWords, AreWords}
 use Rattle.number.proofs.Digits.{length-digits, words-take, words-drop, digits-value, four-below}
 use Rattle.delta.specs.Delta.{Delta, valid, deltaAt, deltaOk, deltaWords}
 use Rattle.delta.proofs.Format.{deltaWords-deltaAt, deltaAt-small, ok-valid, deltaOk-deltaWords, valid-small}
-use Rattle.types.specs.Value.{valueAt, valueWidth, valueOk, isExchanged}
-use Rattle.store.specs.Slots.{Slot, slotWidth, allZero}
-use Rattle.store.proofs.Lists.{same-test, allZero-told, allZero-replicate}
+use Rattle.types.specs.Value.{valueAt, valueOk, isExchanged}
+use Rattle.store.specs.Slots.{Slot, slotWidth, allZero, padded, sameWords}
+use Rattle.store.proofs.Lists.{same-test, allZero-told, allZero-replicate, same-words, words-same}
 use Rattle.model.specs.Rows.{Row, every}
 use Rattle.model.specs.Data.{Cell, write, delta, Entry}
 use Rattle.model.specs.Fine.{isWord, isNumber, fineValue, fineDelta, fineShortcut, fineCell, fineEntry}
 use Rattle.model.proofs.Lists.{and-left, and-right, and-both}
-use Rattle.versioned_data.specs.Layout.{padded, formOf, flagOf, bodyOf, slotOf, cellOf, entryOf, sameWords, slotOk, bodyTest, slotTest}
+use Rattle.versioned_data.specs.Layout.{formOf, flagOf, bodyOf, slotOf, cellOf, entryOf, slotOk, bodyTest, slotTest}
 use Rattle.model.proofs.Walk.{words-every, value-length, value-ok, write-value, write-side, delta-place, delta-delta, entry-cell}
 use Rattle.versioned_data.proofs.Entries.{value-in, delta-words-length}
-use Rattle.versioned_data.proofs.Holding.{same-words, words-same}
 
 delta-ok-in : (d : Delta) (ys : List ℕ) → fineDelta d ≡ true → deltaOk (take 17 (deltaWords d ++ ys)) ≡ true
 unfolding fineDelta isNumber

@@ -24,8 +24,8 @@ use Rattle.types.specs.Value.{valueAt}
 use Rattle.types.specs.declared.index.ShiftedTxnIndex.{ShiftedTxnIndex}
 use Rattle.types.specs.declared.output.MVDataOutput.{MVDataOutput}
 use Rattle.store.specs.Slots
-use Rattle.store.specs.Slots.{Slot, slotWidth, slotsIn, slotAt, held, packed, allZero}
-use Rattle.store.proofs.Words.{slotAt-word, slot-inside, length-slotAt}
+use Rattle.store.specs.Slots.{Slot, slotWidth, slotsIn, slotAt, held, packed, allZero, sameWords}
+use Rattle.store.proofs.Words.{slotAt-part, slotAt-word, slot-inside, length-slotAt}
 use Rattle.store.proofs.Lists.{every-at}
 use Rattle.model.specs.Rows.{Row}
 use Rattle.model.specs.Data.{Entry, dependency, atEnd, atWrite, onto}
@@ -33,12 +33,12 @@ use Rattle.model.specs.Fine.{fineEntry}
 use Rattle.model.proofs.Lists.{and-left, and-right}
 use Rattle.model.specs.Rows.{downAt}
 use Rattle.model.proofs.Places.{downAt-zero, downAt-suc}
-use Rattle.versioned_data.specs.Layout.{slotOf, cellOf, entryOf, entriesIn, sameWords, dataValid, slotOk, bodyTest, slotTest}
+use Rattle.versioned_data.specs.Layout.{slotOf, cellOf, entryOf, entriesIn, dataValid, slotOk, bodyTest, slotTest}
 use Rattle.versioned_data.specs.Output.{outputOf}
 use Rattle.versioned_data.specs.Step.{stepOf, stepAt}
 use Rattle.versioned_data.specs.declared.walk.Walked.{Walked}
 use Rattle.versioned_data.specs.declared.walk.Walked.the-variants.{Stop, Deeper}
-use Rattle.versioned_data.proofs.Positions.{held-at, entry-at, at-few, slotAt-part}
+use Rattle.versioned_data.proofs.Positions.{held-at, entry-at, at-few}
 use Rattle.versioned_data.proofs.ValidSlots.{valid-slots}
 use Rattle.versioned_data.proofs.SlotTest.{slotOk-test}
 

@@ -1,20 +1,20 @@
 -- Rule 5 of a store is rule 5 of its slots, their order, and zeros after them.
 -- Assumes nothing.
 use mathlib.Core.Path.{_≡_, refl, sym, _∙_, ap, ap₂}
-use mathlib.Core.Bool.{Bool, true, false, _&&_}
+use mathlib.Core.Bool.{true, _&&_}
 use mathlib.Core.List.{List, [], _∷_, map}
 use Prim.Native.Nat.{ℕ}
 use Rattle.store.specs.Slots
-use Rattle.store.specs.Slots.{Slot, encode, held, ordered, packed}
+use Rattle.store.specs.Slots.{Slot, encode, held, ordered, packed, sameWords}
 use Rattle.store.proofs.Encode.{encode-held, packed-ordered}
-use Rattle.store.proofs.Lists.{same-test}
+use Rattle.store.proofs.Lists.{same-test, same-words, words-same}
 use Rattle.model.specs.Rows.{Row, every, rising}
 use Rattle.model.specs.Data.{Entry}
 use Rattle.model.specs.Fine.{fineEntry, fineEntries}
 use Rattle.model.proofs.Lists.{and-left, and-right, and-both}
-use Rattle.versioned_data.specs.Layout.{slotOf, entryOf, entriesIn, holding, sameWords, dataValid, slotOk}
+use Rattle.versioned_data.specs.Layout.{slotOf, entryOf, entriesIn, holding, dataValid, slotOk}
 use Rattle.versioned_data.proofs.Entries.{entry-back, slots-ordered}
-use Rattle.versioned_data.proofs.Holding.{same-words, words-same, holding-entries, fine-valid, every-valid, packed-valid, held-valid}
+use Rattle.versioned_data.proofs.Holding.{every-valid, packed-valid, held-valid}
 
 -- the slot of a fine entry passes
 slot-passes : (r : Row Entry) → fineEntry r ≡ true → slotOk (slotOf r) ≡ true

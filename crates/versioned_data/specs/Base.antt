@@ -2,14 +2,14 @@
 use mathlib.Core.Bool.{Bool, cond}
 use mathlib.Core.List.{List}
 use Prim.Native.Nat.{ℕ, _+_, _*_}
-use Rattle.types.specs.Value.{valueAt, isExchanged}
+use Rattle.types.specs.Value.{valueAt, isExchanged, sameBytes}
 use Rattle.store.specs.Slots.{slotWidth}
 use Rattle.model.specs.Rows.{Edit, leave, set}
-use Rattle.model.specs.Data.{write, Entry, done, Ruling, refuse, accept, doneAnswer, sameBytes, sameExchanged}
+use Rattle.model.specs.Data.{write, Entry, done, Ruling, refuse, accept, doneAnswer, sameExchanged}
 use Rattle.versioned_data.specs.declared.base.Base.{Base}
 use Rattle.versioned_data.specs.declared.base.Base.the-variants.{Keep, Set, Differs}
-use Rattle.versioned_data.specs.declared.find.Found.{Found}
-use Rattle.versioned_data.specs.declared.find.Found.the-variants.{There, Absent}
+use Rattle.store.specs.declared.search.Found.{Found}
+use Rattle.store.specs.declared.search.Found.the-variants.{There, Absent}
 
 unfoldable pub keptIf : Bool → Base
 keptIf same = cond same Keep Differs

@@ -2,30 +2,20 @@
 use mathlib.Core.Path.{_≡_}
 use mathlib.Core.Bool.{Bool, true, cond}
 use mathlib.Core.List.{List}
-use mathlib.Core.Option.{Option, none, some}
 use Prim.Native.Nat.{ℕ, _+_, _*_}
-use lib.Dec.{leb, ltb, eqb}
+use lib.Dec.{ltb, eqb}
 use lib.ListN.{length, getD}
 use Rattle.store.specs.Slots.{Slot, slotWidth, slotsIn, held, opened, written}
+use Rattle.store.specs.Found.{foundOf}
 use Rattle.model.specs.Rows.{find}
-use Rattle.model.specs.Data.{Entry}
 use Rattle.model.specs.Rows.{rank}
 use Rattle.versioned_data.specs.Layout.{entriesIn}
-use Rattle.versioned_data.specs.declared.find.Found.{Found}
-use Rattle.versioned_data.specs.declared.find.Found.the-variants.{There, Absent}
-
-unfoldable pub foundOf : ℕ → Option Entry → Found
-foundOf i none = Absent i
-foundOf i (some e) = There i
+use Rattle.store.specs.declared.search.Found.{Found}
+use Rattle.store.specs.declared.search.Found.the-variants.{There, Absent}
 
 -- What is found at a key and shifted index: the slot is the one after all slots of entries below them.
 unfoldable pub foundIn : List ℕ → ℕ → ℕ → Found
 foundIn s key place = foundOf (rank key place (entriesIn s)) (find key place (entriesIn s))
-
--- A place among n slots in use, or just after them.
-unfoldable pub isAmong : ℕ → Found → Bool
-isAmong n (There i) = ltb i n
-isAmong n (Absent i) = leb i n
 
 -- A slot put where an entry was found replaces the one there; where none was found it is inserted, and 14 where no slot is free.
 unfoldable pub putResult : Found → List ℕ → ℕ
@@ -34,7 +24,7 @@ putResult (Absent i) s = cond (ltb (length (held s)) (slotsIn (length s))) 0 14
 
 unfoldable pub putWords : Found → Slot → List ℕ → List ℕ
 putWords (There i) u s = written i u s
-putWords (Absent i) u s = cond (ltb (length (held s)) (slotsIn (length s))) (written i u (opened i (length (held s)) s)) s
+putWords (Absent i) u s = cond (ltb (length (held s)) (slotsIn (length s))) (written i u (opened 1 i (length (held s)) s)) s
 
 pub record Put (found : Found) (u : Slot) (s : List ℕ) (r : ℕ) (after : List ℕ) : Type 0 where
   pub result : r ≡ putResult found s

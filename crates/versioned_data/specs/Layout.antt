@@ -6,24 +6,19 @@
 --   word 3      0                   a delta: words 6 to 22 its words, then the shortcut in words 23 to 26, low word first
 --
 -- All other words are 0. Slots rise by words 0 to 3, so by key and shifted index.
-use mathlib.Core.Path.{_≡_}
-use mathlib.Core.Bool.{Bool, true, false, cond, not, _&&_}
-use mathlib.Core.List.{List, [], _∷_, _++_, map}
-use mathlib.Core.Option.{Option, none, some}
-use Prim.Native.Nat.{ℕ, zero, suc, _+_, _-_, _*_}
+use mathlib.Core.Bool.{Bool, cond, not, _&&_}
+use mathlib.Core.List.{List, _∷_, _++_, map}
+use mathlib.Core.Option.{none, some}
+use Prim.Native.Nat.{ℕ, zero, suc, _+_}
 use lib.Dec.{leb, eqb}
-use lib.ListN.{length, getD, take, drop, replicate}
+use lib.ListN.{length, getD, take, drop}
 use Rattle.number.specs.Words.{digits, valueOfWords}
 use Rattle.delta.specs.Delta.{deltaAt, deltaOk, deltaWords}
 use Rattle.types.specs.Value.{valueAt, valueOk, isExchanged}
-use Rattle.store.specs.Slots.{Slot, slotWidth, slotsIn, encode, held, packed, allZero}
-use Rattle.model.specs.Rows.{Row, every, find, Edit, leave, set, clear, edited}
+use Rattle.store.specs.Slots.{Slot, slotsIn, encode, held, allZero, padded, sameWords}
+use Rattle.model.specs.Rows.{Row, Edit, edited}
 use Rattle.model.specs.Data.{Cell, write, delta, Entry, Ruling, refuse, accept}
 use Rattle.model.specs.Fine.{fineEntry, fineEntries}
-
--- Words with zeros after them, as wide as a slot.
-unfoldable pub padded : List ℕ → Slot
-padded ws = ws ++ replicate (slotWidth - length ws) 0
 
 unfoldable pub formOf : Cell → ℕ
 formOf (write incarnation v) = 0
@@ -59,12 +54,6 @@ entriesIn s = map entryOf (held s)
 
 unfoldable pub holding : List ℕ → List (Row Entry) → List ℕ
 holding s rows = encode s (map slotOf rows)
-
-unfoldable pub sameWords : List ℕ → List ℕ → Bool
-sameWords [] [] = true
-sameWords [] (y ∷ ys) = false
-sameWords (x ∷ xs) [] = false
-sameWords (x ∷ xs) (y ∷ ys) = eqb x y && sameWords xs ys
 
 -- Rule 5 for this store: its words are those of a store that holds fine entries.
 unfoldable pub dataValid : List ℕ → Bool

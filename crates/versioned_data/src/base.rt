@@ -1,9 +1,8 @@
 // What a base value is to do to the base that is there.
 ghost use mathlib.Core.Path.{_≡_};
 ghost use Rattle.types.specs.ValueWithLayout.{wordsOf};
-ghost use Rattle.model.specs.Data.{sameBytes, sameExchanged};
+ghost use Rattle.model.specs.Data.{sameExchanged};
 ghost use Rattle.versioned_data.specs.Base.{keptIf, overBase};
-use types::value::BytesLen;
 use types::value::ValueWithLayout;
 
 pub enum Base {
@@ -24,32 +23,6 @@ fn kept(same: bool) -> Base
     Base::Differs
 }
 
-// The lengths of bytes are compared in place of the bytes; what has none is like only what has none.
-fn same_bytes(v: ValueWithLayout, w: ValueWithLayout) -> bool
-    ensures same { λ r. ⌜ r ≡ sameBytes (wordsOf v) (wordsOf w) ⌝ }
-{
-    let n = v.bytes_len();
-    let m = w.bytes_len();
-    match n {
-        BytesLen::NoBytes => match m {
-            BytesLen::NoBytes => {
-                return true;
-            }
-            BytesLen::Length(_) => {
-                return false;
-            }
-        },
-        BytesLen::Length(x) => match m {
-            BytesLen::NoBytes => {
-                return false;
-            }
-            BytesLen::Length(y) => {
-                return x == y;
-            }
-        },
-    }
-}
-
 // With a layout, identifiers may have been exchanged since, and the bytes may differ.
 fn same_exchanged(v: ValueWithLayout, w: ValueWithLayout) -> bool
     ensures same { λ r. ⌜ r ≡ sameExchanged (wordsOf v) (wordsOf w) ⌝ }
@@ -60,7 +33,7 @@ fn same_exchanged(v: ValueWithLayout, w: ValueWithLayout) -> bool
     if w.has_layout() {
         return false;
     }
-    same_bytes(v, w)
+    v.same_bytes(w)
 }
 
 // Exchanged holds more than raw: it replaces raw, and raw does nothing to it.
@@ -76,5 +49,5 @@ pub fn over_base(value: ValueWithLayout, existing: ValueWithLayout) -> Base
     if existing.is_exchanged() {
         return Base::Keep;
     }
-    kept(same_bytes(value, existing))
+    kept(value.same_bytes(existing))
 }

@@ -8,21 +8,22 @@ ghost use Rattle.delta.specs.Delta.{deltaAt, deltaOk};
 ghost use Rattle.types.specs.Index.{wordOf};
 ghost use Rattle.types.specs.Value.{valueAt, valueWidth};
 ghost use Rattle.store.specs.Slots.{held, packed};
+ghost use Rattle.store.specs.Found.{isAmong};
 ghost use Rattle.model.specs.Data as rule;
 ghost use Rattle.model.specs.Rows.{rowAt};
 ghost use Rattle.versioned_data.specs.Layout.{slotOf, dataValid};
-ghost use Rattle.versioned_data.specs.Found.{isAmong, mayPut, Put};
+ghost use Rattle.versioned_data.specs.Found.{mayPut, Put};
 ghost use Rattle.versioned_data.specs.Base.{baseAt};
 ghost use Rattle.versioned_data.specs.Edited.{Edited};
 use crate::base::Base;
 use crate::base::over_base;
-use crate::find::Found;
 use crate::find::find_entry;
 use crate::layout;
-use store::edit::close_slot;
+use store::edit::close_slots;
 use store::edit::copy_words;
-use store::edit::open_slot;
+use store::edit::open_slots;
 use store::edit::write_slot;
+use store::search::Found;
 use store::search::used;
 use store::slot::slot_count;
 use store::slot::word;
@@ -78,7 +79,7 @@ fn insert_slot(s: &mut [u32], i: usize, u: &[u32; 32]) -> u32
     if slot_count(s) <= n {
         return 14;
     }
-    open_slot(s, i, n);
+    open_slots(s, i, n, 1);
     write_slot(s, i, u);
     0
 }
@@ -182,7 +183,7 @@ pub fn remove(s: &mut [u32], key: u32, txn_idx: TxnIndex) -> u32
         }
         Found::There(i) => {
             let n = used(s);
-            close_slot(s, i, n);
+            close_slots(s, i, n, 1);
             return 0;
         }
     }

@@ -1,12 +1,12 @@
 // What a transaction's delta comes to once the transaction commits: `VersionedData::materialize_delta`.
 use crate::fetch::read_at;
-use crate::find::Found;
 use crate::find::find_entry;
 use crate::layout;
 use delta::DeltaOp;
 use number::Number;
 use number::words;
 use store::edit::set_word;
+use store::search::Found;
 use store::slot::word;
 use types::index::ShiftedTxnIndex;
 use types::index::TxnIndex;

@@ -1,7 +1,7 @@
 // Rule 5 for the data store: one pass over its slots.
 use crate::layout;
 use delta::words::is_delta;
-use store::scan::all_zero;
+use store::scan::rest_zero;
 use store::scan::zero_from;
 use store::slot::in_order;
 use store::slot::slot_count;
@@ -36,15 +36,6 @@ fn head_ok(s: &[u32], i: usize) -> bool
         return false;
     }
     word(s, i, layout::FLAG) <= layout::LAST_FLAG
-}
-
-// Whether the words of slot i from j on are zero.
-fn rest_zero(s: &[u32], i: usize, j: usize) -> bool
-    requires inside { ⌜ i < slotsIn (length (now s)) ⌝ }
-    requires within { ⌜ j ≤ slotWidth ⌝ }
-    ensures zero { λ r. ⌜ r ≡ allZero (drop j (slotAt i (now (s .entry)))) ⌝ }
-{
-    all_zero(s, 32 * i + j, 32 * i + 32)
 }
 
 // Whether a write of this value may stand in slot i: at the base, incarnation 0 and done; above it, exchanged.

@@ -10,10 +10,10 @@ use Rattle.store.proofs.edit.move_down.Statement.{statement}
 use Rattle.store.proofs.edit.move_down.Tie as tie
 
 abbrev Inv-loop : tie.InvT-loop
-Inv-loop s₀ at n j₀ s j = (j ≤ n) × (s ≡ copied s₀ at (drop (at + 32) s₀) j) × (length s ≡ length s₀)
+Inv-loop s₀ at gap n j₀ s j = (j ≤ n) × (s ≡ copied s₀ at (drop (at + gap) s₀) j) × (length s ≡ length s₀)
 
 abbrev μ-loop : tie.MeasureT-loop
-μ-loop s₀ at n j₀ s j = n - j
+μ-loop s₀ at gap n j₀ s j = n - j
 
 loop-holds : tie.Need-loop-holds Inv-loop μ-loop
 loop-holds c = (omega arith, copied-none _ _ _, refl)
@@ -46,7 +46,7 @@ loop-less : tie.Need-loop-less Inv-loop μ-loop
 loop-less c = search needs
 
 loop-again : tie.Need-loop-again Inv-loop μ-loop
-loop-again c = (omega arith, down-turn _ _ _ 32 _ (c .before .before .loop .inv .1) (omega arith), simp length-set (c .before .before .loop .inv .2))
+loop-again c = (omega arith, down-turn _ _ _ _ _ (c .before .before .loop .inv .1) (omega arith), simp length-set (c .before .before .loop .inv .2))
 
 same-length : tie.Need-same-length Inv-loop μ-loop
 same-length c = search needs

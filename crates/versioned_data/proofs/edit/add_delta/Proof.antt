@@ -2,7 +2,8 @@
 -- Assumes nothing.
 use mathlib.Core.Path.{refl}
 use borrow.Author.Needs.{needs}
-use Rattle.versioned_data.proofs.Operations.{shifted-word, found-among, delta-added}
+use Rattle.types.proofs.Shifted.{shifted-word}
+use Rattle.versioned_data.proofs.Operations.{found-among, delta-added}
 use Rattle.versioned_data.proofs.Holding.{packed-valid}
 use Rattle.versioned_data.proofs.edit.add_delta.Statement.{statement}
 use Rattle.versioned_data.proofs.edit.add_delta.Tie as tie

@@ -18,19 +18,19 @@ returns : tie.Need-returns
 returns c =
     put-full _ _ _ _ _ (c .before .before .before .used .ensures) (c .before .slot-count .ensures) (c .if1 .taken)
 
-open-slot-requires : tie.Need-open-slot-requires
-open-slot-requires c κs = search needs
+open-slots-requires : tie.Need-open-slots-requires
+open-slots-requires c κs = search needs
 
 write-slot-requires : tie.Need-write-slot-requires
 write-slot-requires c κs =
-    insert-room _ _ _ _ (c .before .before .before .before .before .before .before .before .used .ensures) (c .before .before .before .before .before .before .slot-count .ensures) (c .before .before .before .before .before .before .before .before .before .before .before .pre .1) (c .before .before .before .before .before .if1 .left) _ (c .before .before .before .open-slot .ensures) (c .before .before .s .given)
+    insert-room _ _ _ _ (c .before .before .before .before .before .before .before .before .used .ensures) (c .before .before .before .before .before .before .slot-count .ensures) (c .before .before .before .before .before .before .before .before .before .before .before .pre .1) (c .before .before .before .before .before .if1 .left) _ (c .before .before .before .open-slots .ensures) (c .before .before .s .given)
 
 same-length-2 : tie.Need-same-length-2
 same-length-2 c = search needs
 
 returns-2 : tie.Need-returns-2
 returns-2 c =
-    put-inserted _ _ _ _ _ (c .before .before .before .before .before .before .before .before .before .before .before .used .ensures) (c .before .before .before .before .before .before .before .before .before .slot-count .ensures) (c .before .before .before .before .before .before .before .before .if1 .left) _ _ (c .before .before .before .before .before .before .open-slot .ensures) (c .before .before .write-slot .ensures)
+    put-inserted _ _ _ _ _ (c .before .before .before .before .before .before .before .before .before .before .before .used .ensures) (c .before .before .before .before .before .before .before .before .before .slot-count .ensures) (c .before .before .before .before .before .before .before .before .if1 .left) _ _ (c .before .before .before .before .before .before .open-slots .ensures) (c .before .before .write-slot .ensures)
 
 pub insert-slot-spec : {M : Type 1} → statement M
 insert-slot-spec =
@@ -40,7 +40,7 @@ insert-slot-spec =
     slot-count-requires
     same-length
     returns
-    open-slot-requires
+    open-slots-requires
     write-slot-requires
     same-length-2
     returns-2)

@@ -3,7 +3,8 @@
 use mathlib.Core.Path.{refl}
 use native.Mathlib.Omega.{arith}
 use borrow.Author.Needs.{needs}
-use Rattle.versioned_data.proofs.Operations.{shifted-word, mark-refused, mark-room, mark-done}
+use Rattle.types.proofs.Shifted.{shifted-word}
+use Rattle.versioned_data.proofs.Operations.{mark-refused, mark-room, mark-done}
 use Rattle.versioned_data.proofs.edit.mark_estimate.Statement.{statement}
 use Rattle.versioned_data.proofs.edit.mark_estimate.Tie as tie
 

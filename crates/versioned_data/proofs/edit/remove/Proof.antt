@@ -2,7 +2,9 @@
 -- Assumes nothing.
 use mathlib.Core.Path.{refl}
 use borrow.Author.Needs.{needs}
-use Rattle.versioned_data.proofs.Operations.{shifted-word, remove-refused, remove-room, remove-done}
+use native.Mathlib.Omega.{arith}
+use Rattle.types.proofs.Shifted.{shifted-word}
+use Rattle.versioned_data.proofs.Operations.{remove-refused, remove-room, remove-done}
 use Rattle.versioned_data.proofs.Holding.{packed-valid}
 use Rattle.versioned_data.proofs.edit.remove.Statement.{statement}
 use Rattle.versioned_data.proofs.edit.remove.Tie as tie
@@ -30,9 +32,10 @@ used-requires : tie.Need-used-requires
 used-requires c κs =
     packed-valid _ (c .before .before .before .before .before .before .before .before .pre .0)
 
-close-slot-requires : tie.Need-close-slot-requires
-close-slot-requires c κs =
-    remove-room _ (c .before .before .before .before .before .before .before .before .before .before .pre .0) _ _ _ refl _ (c .before .before .before .before .before .before .find-entry .ensures) _ (c .before .before .before .before .found .given .1) _ (c .before .used .ensures)
+close-slots-requires : tie.Need-close-slots-requires
+close-slots-requires c κs =
+    let room = remove-room _ (c .before .before .before .before .before .before .before .before .before .before .pre .0) _ _ _ refl _ (c .before .before .before .before .before .before .find-entry .ensures) _ (c .before .before .before .before .found .given .1) _ (c .before .used .ensures) in
+    (omega (arith, room .0), room .1)
 
 same-length-2 : tie.Need-same-length-2
 same-length-2 c = search needs
@@ -40,7 +43,7 @@ same-length-2 c = search needs
 returns-2 : tie.Need-returns-2
 returns-2 c =
     remove-done _ (c .before .before .before .before .before .before .before .before .before .before .before .before .before .pre .0) _ _ _ (shifted-word _ _ (c .before .before .before .before .before .before .before .before .before .before .new .ensures)) _ (c .before .before .before .before .before .before .before .before .before .find-entry .ensures) _ (c .before .before .before .before .before .before .before .found .given .1) _
-    (c .before .before .before .before .used .ensures) _ (c .before .before .close-slot .ensures)
+    (c .before .before .before .before .used .ensures) _ (c .before .before .close-slots .ensures)
 
 pub remove-spec : {M : Type 1} → statement M
 remove-spec =
@@ -53,6 +56,6 @@ remove-spec =
     returns
     enum-known-found
     used-requires
-    close-slot-requires
+    close-slots-requires
     same-length-2
     returns-2)

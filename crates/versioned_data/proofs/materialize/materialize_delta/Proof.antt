@@ -2,8 +2,8 @@
 -- Assumes nothing.
 use mathlib.Core.Path.{refl}
 use borrow.Author.Needs.{needs}
+use Rattle.types.proofs.Shifted.{shifted-word}
 use Rattle.versioned_data.proofs.Bounds.{bound-above}
-use Rattle.versioned_data.proofs.Operations.{shifted-word}
 use Rattle.versioned_data.proofs.Shortcuts.{materialize-other, materialize-resolved}
 use Rattle.versioned_data.proofs.materialize.materialize_delta.Statement.{statement}
 use Rattle.versioned_data.proofs.materialize.materialize_delta.Tie as tie

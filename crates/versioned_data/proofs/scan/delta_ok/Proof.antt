@@ -2,8 +2,7 @@
 -- Assumes nothing.
 use native.Mathlib.Omega.{arith}
 use borrow.Author.Needs.{needs}
-use Rattle.store.proofs.Words.{slot-inside}
-use Rattle.versioned_data.proofs.Positions.{part-inside}
+use Rattle.store.proofs.Words.{slot-inside, part-inside}
 use Rattle.versioned_data.proofs.Scanning.{delta-base, delta-words, delta-rest}
 use Rattle.versioned_data.proofs.scan.delta_ok.Statement.{statement}
 use Rattle.versioned_data.proofs.scan.delta_ok.Tie as tie

@@ -3,8 +3,7 @@
 use native.Mathlib.Omega.{arith}
 use borrow.Author.Needs.{needs}
 use Rattle.types.proofs.Values.{read-words}
-use Rattle.store.proofs.Words.{slot-inside}
-use Rattle.versioned_data.proofs.Positions.{part-inside}
+use Rattle.store.proofs.Words.{slot-inside, part-inside}
 use Rattle.versioned_data.proofs.Scanning.{write-value, write-place, write-rest}
 use Rattle.versioned_data.proofs.scan.write_ok.Statement.{statement}
 use Rattle.versioned_data.proofs.scan.write_ok.Tie as tie

@@ -2,9 +2,8 @@
 -- Assumes nothing.
 use native.Mathlib.Omega.{arith}
 use borrow.Author.Needs.{needs}
-use Rattle.store.proofs.Words.{slot-inside}
+use Rattle.store.proofs.Words.{slot-inside, part-inside}
 use Rattle.types.proofs.Values.{read-words}
-use Rattle.versioned_data.proofs.Positions.{part-inside}
 use Rattle.versioned_data.proofs.Walks.{write-empty, write-gathered, write-failed}
 use Rattle.versioned_data.proofs.walk.at_write.Statement.{statement}
 use Rattle.versioned_data.proofs.walk.at_write.Tie as tie

@@ -2,8 +2,7 @@
 -- Assumes nothing.
 use native.Mathlib.Omega.{arith}
 use borrow.Author.Needs.{needs}
-use Rattle.store.proofs.Words.{slot-inside}
-use Rattle.versioned_data.proofs.Positions.{part-inside}
+use Rattle.store.proofs.Words.{slot-inside, part-inside}
 use Rattle.versioned_data.proofs.Steps.{step-none, last-inside, last-few, stop-other, stop-estimate, stop-write, stop-shortcut, deeper-delta, slot-delta}
 use Rattle.versioned_data.proofs.walk.step.Statement.{statement}
 use Rattle.versioned_data.proofs.walk.step.Tie as tie

@@ -1,10 +1,10 @@
--- `versioned_data::scan::rest_zero` meets its contract.
+-- `store::scan::rest_zero` meets its contract.
 -- Assumes nothing.
 use native.Mathlib.Omega.{arith}
 use Rattle.store.proofs.Words.{slot-inside}
-use Rattle.versioned_data.proofs.Scanning.{rest-is}
-use Rattle.versioned_data.proofs.scan.rest_zero.Statement.{statement}
-use Rattle.versioned_data.proofs.scan.rest_zero.Tie as tie
+use Rattle.store.proofs.Scans.{rest-is}
+use Rattle.store.proofs.scan.rest_zero.Statement.{statement}
+use Rattle.store.proofs.scan.rest_zero.Tie as tie
 
 mul-all-zero : tie.Need-mul-all-zero
 mul-all-zero c = omega (arith, slot-inside _ _ (c .before .pre .0))

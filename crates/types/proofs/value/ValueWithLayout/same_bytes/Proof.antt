@@ -1,10 +1,10 @@
--- `versioned_data::base::same_bytes` meets its contract.
+-- `ValueWithLayout::same_bytes` meets its contract.
 -- Assumes nothing.
 use mathlib.Core.Path.{sym, _∙_}
 use borrow.Author.Needs.{needs}
-use Rattle.versioned_data.proofs.Bases.{bytes-same}
-use Rattle.versioned_data.proofs.base.same_bytes.Statement.{statement}
-use Rattle.versioned_data.proofs.base.same_bytes.Tie as tie
+use Rattle.types.proofs.Values.{bytes-same}
+use Rattle.types.proofs.value.ValueWithLayout.same_bytes.Statement.{statement}
+use Rattle.types.proofs.value.ValueWithLayout.same_bytes.Tie as tie
 
 bytes-len-requires : tie.Need-bytes-len-requires
 bytes-len-requires c κs = search needs

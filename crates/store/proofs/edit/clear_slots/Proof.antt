@@ -1,28 +1,32 @@
--- `store::edit::clear_slot` meets its contract: after j turns, j words are cleared.
+-- `store::edit::clear_slots` meets its contract: after j turns, j words are cleared.
 -- Assumes nothing.
 use borrow.Author.Needs.{needs}
 use native.Mathlib.Omega.{arith}
 use mathlib.Core.Path.{_≡_, refl}
 use Prim.Native.Nat.{_-_, _≤_}
-use lib.ListN.{length, length-set, replicate}
+use lib.ListN.{length, length-set}
 use Rattle.store.specs.Slots.{slotsIn}
-use Rattle.store.proofs.Moves.{copied, copied-none, copied-written, clear-turn}
-use Rattle.store.proofs.edit.clear_slot.Statement.{statement}
-use Rattle.store.proofs.edit.clear_slot.Tie as tie
+use Rattle.store.proofs.Moves.{zeroed, zeroed-none, zeroed-cleared, clear-turn}
+use Rattle.store.proofs.edit.clear_slots.Statement.{statement}
+use Rattle.store.proofs.edit.clear_slots.Tie as tie
 
 abbrev Inv-loop : tie.InvT-loop
-Inv-loop s₀ i at j₀ s j = (j ≤ 32) × (s ≡ copied s₀ at (replicate 32 0) j) × (length s ≡ length s₀)
+Inv-loop s₀ i c at n j₀ s j = (j ≤ n) × (s ≡ zeroed s₀ at n j) × (length s ≡ length s₀)
 
 abbrev μ-loop : tie.MeasureT-loop
-μ-loop s₀ i at j₀ s j = 32 - j
+μ-loop s₀ i c at n j₀ s j = n - j
 
 mul-at : tie.Need-mul-at Inv-loop μ-loop
 unfolding slotsIn
 mul-at c = search needs
 
+mul-n : tie.Need-mul-n Inv-loop μ-loop
+unfolding slotsIn
+mul-n c = search needs
+
 loop-holds : tie.Need-loop-holds Inv-loop μ-loop
 unfolding slotsIn
-loop-holds c = (omega arith, copied-none _ _ _, refl)
+loop-holds c = (omega arith, zeroed-none _ _ _, refl)
 
 add-s : tie.Need-add-s Inv-loop μ-loop
 unfolding slotsIn
@@ -46,7 +50,7 @@ loop-less c = search needs
 
 loop-again : tie.Need-loop-again Inv-loop μ-loop
 unfolding slotsIn
-loop-again c = (omega arith, clear-turn _ _ _ 32 _ (c .before .loop .inv .1) (omega arith) (omega arith), simp length-set (c .before .loop .inv .2))
+loop-again c = (omega arith, clear-turn _ _ _ _ _ (c .before .loop .inv .1) (omega arith) (omega arith), simp length-set (c .before .loop .inv .2))
 
 same-length : tie.Need-same-length Inv-loop μ-loop
 unfolding slotsIn
@@ -54,15 +58,16 @@ same-length c = search needs
 
 returns : tie.Need-returns Inv-loop μ-loop
 unfolding slotsIn
-returns c = copied-written _ _ _ _ _ (c .before .loop .inv .1) (omega arith) refl
+returns c = zeroed-cleared _ _ _ _ _ (c .before .loop .inv .1) (omega arith)
 
-pub clear-slot-spec : {M : Type 1} → statement M
-clear-slot-spec =
+pub clear-slots-spec : {M : Type 1} → statement M
+clear-slots-spec =
     tie.close
     (tie.spec
     Inv-loop
     μ-loop
     mul-at
+    mul-n
     loop-holds
     add-s
     mul-s
