@@ -1,0 +1,14 @@
+pub mod Parts
+pub mod Gathers
+pub mod Holding
+pub mod Splits
+pub mod Places
+pub mod Members
+pub mod Standing
+pub mod Runs
+pub mod SlotWords
+pub mod Regathered
+pub mod Passing
+pub mod ValidSlots
+pub mod Cleared
+pub mod Scanning

@@ -1,0 +1,12 @@
+pub mod Ruled
+pub mod Output
+pub mod Members
+pub mod Commit
+pub mod Sizes
+pub mod Down
+pub mod Seen
+pub mod Growth
+pub mod Written
+pub mod Collected
+pub mod Exchange
+pub mod Tried
