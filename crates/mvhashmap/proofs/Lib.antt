@@ -1,0 +1,15 @@
+pub mod Valid
+pub mod Rulings
+pub mod Total
+pub mod Right
+pub mod Blind
+pub mod Reached
+pub mod Puts
+pub mod Outputs
+pub mod Works
+pub mod Dones
+pub mod Requested
+pub mod Serves
+pub mod GroupServes
+pub mod GroupRequested
+pub mod Calls

@@ -1,0 +1,87 @@
+-- `mvhashmap::call::call` meets its contract.
+-- Assumes nothing.
+use Rattle.mvhashmap.proofs.Calls.{calls-short, calls-refused, asked-accepted, valid-told, calls-data-invalid, calls-group-invalid}
+use borrow.Author.Needs.{needs}
+use Rattle.mvhashmap.proofs.call.call.Statement.{statement}
+use Rattle.mvhashmap.proofs.call.call.Tie as tie
+
+returns : tie.Need-returns
+returns c = calls-short _ _ _ _ (c .if1 .taken)
+
+check-requires : tie.Need-check-requires
+check-requires c κs = search needs
+
+enum-known-n : tie.Need-enum-known-n
+enum-known-n c = search needs
+
+returns-2 : tie.Need-returns-2
+returns-2 c = calls-refused _ _ _ _ (c .before .before .before .before .if1 .left) _ (c .before .before .before .check .ensures) _ (c .before .n .given .1)
+
+enum-known-f : tie.Need-enum-known-f
+enum-known-f c = search needs
+
+is-valid-requires : tie.Need-is-valid-requires
+is-valid-requires c κs = search needs
+
+same-length : tie.Need-same-length
+same-length c = search needs
+
+returns-3 : tie.Need-returns-3
+returns-3 c = calls-data-invalid _ _ _ _ _ (asked-accepted _ _ (c .before .before .before .before .before .before .before .if1 .left) _ (c .before .before .before .before .before .before .check .ensures) _ (c .before .before .before .before .f .given .1)) _ (c .before .is-valid .ensures) (c .if2 .taken)
+
+is-valid-requires-2 : tie.Need-is-valid-requires-2
+is-valid-requires-2 c κs = search needs
+
+same-length-2 : tie.Need-same-length-2
+same-length-2 c = search needs
+
+same-length-3 : tie.Need-same-length-3
+same-length-3 c = search needs
+
+returns-4 : tie.Need-returns-4
+returns-4 c =
+    calls-group-invalid _ _ _ _ _ (asked-accepted _ _ (c .before .before .before .before .before .before .before .before .before .before .if1 .left) _ (c .before .before .before .before .before .before .before .before .before .check .ensures) _ (c .before .before .before .before .before .before .before .f .given .1)) (valid-told _ _ (c .before .before .before .before .is-valid .ensures) (c .before .before .before .if2 .left))
+    _ (c .before .is-valid2 .ensures) (c .if3 .taken)
+
+accepted-requires : tie.Need-accepted-requires
+accepted-requires c κs = (
+  valid-told _ _ (c .before .before .before .before .before .before .before .is-valid .ensures) (c .before .before .before .before .before .before .if2 .left),
+  (
+    valid-told _ _ (c .before .before .before .before .is-valid2 .ensures) (c .before .before .before .if3 .left),
+    asked-accepted _ _ (c .before .before .before .before .before .before .before .before .before .before .before .before .before .if1 .left) _ (c .before .before .before .before .before .before .before .before .before .before .before .before .check .ensures) _ (c .before .before .before .before .before .before .before .before .before .before .f .given .1),
+  ),
+)
+
+same-length-4 : tie.Need-same-length-4
+same-length-4 c = search needs
+
+same-length-5 : tie.Need-same-length-5
+same-length-5 c = search needs
+
+same-length-6 : tie.Need-same-length-6
+same-length-6 c = search needs
+
+returns-5 : tie.Need-returns-5
+returns-5 c = search needs
+
+pub call-spec : {M : Type 1} → statement M
+call-spec =
+    tie.close
+    (tie.spec
+    returns
+    check-requires
+    enum-known-n
+    returns-2
+    enum-known-f
+    is-valid-requires
+    same-length
+    returns-3
+    is-valid-requires-2
+    same-length-2
+    same-length-3
+    returns-4
+    accepted-requires
+    same-length-4
+    same-length-5
+    same-length-6
+    returns-5)

@@ -1,0 +1,27 @@
+-- `mvhashmap::data::add_delta` meets its contract.
+-- Assumes nothing.
+use Rattle.mvhashmap.proofs.Serves.{serves-edit}
+use Rattle.mvhashmap.proofs.Dones.{addDelta-done}
+use Rattle.mvhashmap.proofs.Requested.{index-served, delta-inside, delta-ok, asks-add-delta}
+use borrow.Author.Needs.{needs}
+use Rattle.mvhashmap.proofs.data.add_delta.Statement.{statement}
+use Rattle.mvhashmap.proofs.data.add_delta.Tie as tie
+
+add-delta-requires : tie.Need-add-delta-requires
+add-delta-requires c κs = (c .before .before .before .before .pre .0, (index-served _ _ _ (c .before .before .before .before .pre .1 .0), (delta-inside _ _ _ (c .before .before .before .before .pre .1 .0) (c .before .before .before .before .pre .1 .1), delta-ok _ _ _ (c .before .before .before .before .pre .1 .0) (c .before .before .before .before .pre .1 .1))))
+
+done-requires : tie.Need-done-requires
+done-requires c κs = c .before .before .before .before .before .before .before .before .pre .1 .0 .room
+
+same-length : tie.Need-same-length
+same-length c = search needs
+
+same-length-2 : tie.Need-same-length-2
+same-length-2 c = search needs
+
+returns : tie.Need-returns
+returns c = serves-edit _ _ _ _ _ _ _ 0 _ (asks-add-delta _ _ _ (c .before .before .before .before .before .before .before .before .before .before .before .pre .1 .0) (c .before .before .before .before .before .before .before .before .before .before .before .pre .1 .1)) (addDelta-done _) _ _ (c .before .before .before .before .before .before .add-delta .ensures) (c .before .before .done .ensures)
+
+pub add-delta-spec : {M : Type 1} → statement M
+add-delta-spec =
+    tie.close (tie.spec add-delta-requires done-requires same-length same-length-2 returns)

@@ -1,0 +1,26 @@
+-- `mvhashmap::data::remove` meets its contract.
+-- Assumes nothing.
+use Rattle.mvhashmap.proofs.Serves.{serves-edit}
+use Rattle.mvhashmap.proofs.Dones.{remove-done}
+use Rattle.mvhashmap.proofs.Requested.{index-served, asks-remove}
+use borrow.Author.Needs.{needs}
+use Rattle.mvhashmap.proofs.data.remove.Statement.{statement}
+use Rattle.mvhashmap.proofs.data.remove.Tie as tie
+
+remove-requires : tie.Need-remove-requires
+remove-requires c κs = (c .before .before .before .before .pre .0, index-served _ _ _ (c .before .before .before .before .pre .1 .0))
+
+done-requires : tie.Need-done-requires
+done-requires c κs = c .before .before .before .before .before .before .before .before .pre .1 .0 .room
+
+same-length : tie.Need-same-length
+same-length c = search needs
+
+same-length-2 : tie.Need-same-length-2
+same-length-2 c = search needs
+
+returns : tie.Need-returns
+returns c = serves-edit _ _ _ _ _ _ _ 0 _ (asks-remove _ _ _ (c .before .before .before .before .before .before .before .before .before .before .before .pre .1 .0) (c .before .before .before .before .before .before .before .before .before .before .before .pre .1 .1)) (remove-done) _ _ (c .before .before .before .before .before .before .remove .ensures) (c .before .before .done .ensures)
+
+pub remove-spec : {M : Type 1} → statement M
+remove-spec = tie.close (tie.spec remove-requires done-requires same-length same-length-2 returns)

@@ -1,0 +1,27 @@
+-- `mvhashmap::data::set_base_value` meets its contract.
+-- Assumes nothing.
+use Rattle.mvhashmap.proofs.Serves.{serves-edit}
+use Rattle.mvhashmap.proofs.Dones.{setBaseValue-done}
+use Rattle.mvhashmap.proofs.Requested.{base-inside, asks-base}
+use borrow.Author.Needs.{needs}
+use Rattle.mvhashmap.proofs.data.set_base_value.Statement.{statement}
+use Rattle.mvhashmap.proofs.data.set_base_value.Tie as tie
+
+set-base-value-requires : tie.Need-set-base-value-requires
+set-base-value-requires c κs = (c .before .before .before .before .pre .0, base-inside _ _ _ (c .before .before .before .before .pre .1 .0) (c .before .before .before .before .pre .1 .1))
+
+done-requires : tie.Need-done-requires
+done-requires c κs = c .before .before .before .before .before .before .before .before .pre .1 .0 .room
+
+same-length : tie.Need-same-length
+same-length c = search needs
+
+same-length-2 : tie.Need-same-length-2
+same-length-2 c = search needs
+
+returns : tie.Need-returns
+returns c = serves-edit _ _ _ _ _ _ 0 0 _ (asks-base _ _ _ (c .before .before .before .before .before .before .before .before .before .before .before .pre .1 .0) (c .before .before .before .before .before .before .before .before .before .before .before .pre .1 .1)) (setBaseValue-done _) _ _ (c .before .before .before .before .before .before .set-base-value .ensures) (c .before .before .done .ensures)
+
+pub set-base-value-spec : {M : Type 1} → statement M
+set-base-value-spec =
+    tie.close (tie.spec set-base-value-requires done-requires same-length same-length-2 returns)
