@@ -1,5 +1,0 @@
-mod Words
-mod Lines
-mod Moves
-mod Finds
-mod States

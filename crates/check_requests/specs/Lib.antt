@@ -1,4 +1,0 @@
-pub mod Input
-pub mod Found
-pub mod Line
-pub mod State

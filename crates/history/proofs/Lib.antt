@@ -1,0 +1,7 @@
+mod Words
+mod Moves
+mod Requests
+mod Lines
+mod States
+mod Buffered
+mod Turns

@@ -1,0 +1,96 @@
+// One turn: a request is read, answered and its line put.
+use super::input;
+use super::line;
+use super::state;
+use super::state::State;
+use mvhashmap::call;
+ghost use mathlib.Core.Path.{_≡_};
+ghost use mathlib.Core.Bool.{true};
+ghost use Prim.Native.Nat.{_+_, _≤_};
+ghost use lib.ListN.{length};
+ghost use Rattle.versioned_data.specs.Layout.{dataValid};
+ghost use Rattle.group_slots.specs.Layout.{groupValid};
+ghost use Rattle.history.specs.State.{longestRequest, longestLine, Within, unread};
+ghost use Rattle.history.specs.Turn.{Answered, Turned};
+
+// Calls with the next request, and puts the line of what the call shows.
+fn answered(
+    bytes: &[u8],
+    words: &mut [u32],
+    data: &mut [u32],
+    group: &mut [u32],
+    answer: &mut [u32],
+    out: &mut [u8],
+    s: State,
+) -> State
+    requires within { ⌜ Within (length (now bytes)) s ⌝ }
+    requires words { ⌜ 454 ≤ length (now words) ⌝ }
+    requires data { ⌜ dataValid (now «data») ≡ true ⌝ }
+    requires group { ⌜ groupValid (now group) ≡ true ⌝ }
+    requires answer { ⌜ 451 ≤ length (now answer) ⌝ }
+    requires room { ⌜ s .put + longestLine ≤ length (now out) ⌝ }
+    ensures within { λ r. ⌜ Within (length (now (bytes .entry))) r ⌝ }
+    ensures waits { λ r. ⌜ r .put ≤ length (now (out .exit)) ⌝ }
+    ensures data { λ _. ⌜ dataValid (now («data» .exit)) ≡ true ⌝ }
+    ensures group { λ _. ⌜ groupValid (now (group .exit)) ≡ true ⌝ }
+    ensures answered { λ r. ⌜ Answered s (unread s (now (bytes .entry))) (now («data» .entry)) (now (group .entry)) (now (answer .entry)) (now (out .entry)) r (now («data» .exit)) (now (group .exit)) (now (answer .exit)) (now (out .exit)) ⌝ }
+{
+    let at = s.at;
+    let end = s.end;
+    let put = s.put;
+    let over = s.over;
+    if at == end {
+        return State {
+            at,
+            end,
+            put,
+            over,
+            stop: true,
+        };
+    }
+    let n = input::next(&bytes[at..end], words);
+    let result = call::inner_call(&words[..n], data, group, answer);
+    let put = line::put(out, put, result, answer);
+    State {
+        at: at + 4 * n,
+        end,
+        put,
+        over,
+        stop: n == 0,
+    }
+}
+
+pub fn turn(
+    bytes: &mut [u8],
+    words: &mut [u32],
+    data: &mut [u32],
+    group: &mut [u32],
+    answer: &mut [u32],
+    out: &mut [u8],
+    s: State,
+) -> State
+    requires within { ⌜ Within (length (now bytes)) s ⌝ }
+    requires bytes { ⌜ longestRequest ≤ length (now bytes) ⌝ }
+    requires words { ⌜ 454 ≤ length (now words) ⌝ }
+    requires data { ⌜ dataValid (now «data») ≡ true ⌝ }
+    requires group { ⌜ groupValid (now group) ≡ true ⌝ }
+    requires answer { ⌜ 451 ≤ length (now answer) ⌝ }
+    requires waits { ⌜ s .put ≤ length (now out) ⌝ }
+    requires room { ⌜ longestLine ≤ length (now out) ⌝ }
+    ensures within { λ r. ⌜ Within (length (now (bytes .exit))) r ⌝ }
+    ensures waits { λ r. ⌜ r .put ≤ length (now (out .exit)) ⌝ }
+    ensures data { λ _. ⌜ dataValid (now («data» .exit)) ≡ true ⌝ }
+    ensures group { λ _. ⌜ groupValid (now (group .exit)) ≡ true ⌝ }
+    ensures turned { λ r. ⌜ Turned s (now (bytes .entry)) (now («data» .entry)) (now (group .entry)) (now (answer .entry)) (now (out .entry)) r (now (bytes .exit)) (now («data» .exit)) (now (group .exit)) (now (answer .exit)) (now (out .exit)) ⌝ }
+{
+    let f = state::filled(bytes, s);
+    let put = state::flushed(out, f.put);
+    let ready = State {
+        at: f.at,
+        end: f.end,
+        put,
+        over: f.over,
+        stop: f.stop,
+    };
+    answered(bytes, words, data, group, answer, out, ready)
+}
