@@ -1,4 +1,4 @@
--- `versioned_group_data::find::find_committed` meets its contract.
+-- `group_slots::find::find_committed` meets its contract.
 -- Assumes nothing.
 use mathlib.Core.Path.{_∙_}
 use native.Mathlib.Omega.{arith}

@@ -1,4 +1,4 @@
--- `versioned_group_data::find::find_member` meets its contract.
+-- `group_slots::find::find_member` meets its contract.
 -- Assumes nothing.
 use native.Mathlib.Omega.{arith}
 use borrow.Author.Needs.{needs}

@@ -1,4 +1,4 @@
--- `versioned_group_data::find::find_update` meets its contract.
+-- `group_slots::find::find_update` meets its contract.
 -- Assumes nothing.
 use borrow.Author.Needs.{needs}
 use Rattle.group_slots.proofs.Holding.{packed-valid}

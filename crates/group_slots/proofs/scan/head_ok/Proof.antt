@@ -1,4 +1,4 @@
--- `versioned_group_data::scan::head_ok` meets its contract.
+-- `group_slots::scan::head_ok` meets its contract.
 -- Assumes nothing.
 use borrow.Author.Needs.{needs}
 use Rattle.group_slots.proofs.Scanning.{head-part, head-fourth, head-flag, head-base}

@@ -1,4 +1,4 @@
--- `versioned_group_data::scan::is_member` meets its contract.
+-- `group_slots::scan::is_member` meets its contract.
 -- Assumes nothing.
 use borrow.Author.Needs.{needs}
 use Rattle.group_slots.proofs.Scanning.{member-other, member-part}

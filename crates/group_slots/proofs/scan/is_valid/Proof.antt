@@ -1,4 +1,4 @@
--- `versioned_group_data::scan::is_valid` meets its contract.
+-- `group_slots::scan::is_valid` meets its contract.
 -- Assumes nothing.
 use borrow.Author.Needs.{needs}
 use Rattle.group_slots.proofs.Scanning.{valid-first, valid-slots}

@@ -1,4 +1,4 @@
--- `versioned_group_data::scan::joins` meets its contract.
+-- `group_slots::scan::joins` meets its contract.
 -- Assumes nothing.
 use borrow.Author.Needs.{needs}
 use Rattle.store.proofs.Scans.{joined-first}

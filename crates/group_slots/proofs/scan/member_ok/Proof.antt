@@ -1,4 +1,4 @@
--- `versioned_group_data::scan::member_ok` meets its contract.
+-- `group_slots::scan::member_ok` meets its contract.
 -- Assumes nothing.
 use native.Mathlib.Omega.{arith}
 use borrow.Author.Needs.{needs}

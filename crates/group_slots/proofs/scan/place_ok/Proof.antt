@@ -1,4 +1,4 @@
--- `versioned_group_data::scan::place_ok` meets its contract.
+-- `group_slots::scan::place_ok` meets its contract.
 -- Assumes nothing.
 use borrow.Author.Needs.{needs}
 use Rattle.group_slots.proofs.Scanning.{place-base, place-above}

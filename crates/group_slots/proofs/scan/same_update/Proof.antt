@@ -1,4 +1,4 @@
--- `versioned_group_data::scan::same_update` meets its contract.
+-- `group_slots::scan::same_update` meets its contract.
 -- Assumes nothing.
 use borrow.Author.Needs.{needs}
 use Rattle.group_slots.proofs.Scanning.{same-other, same-key, same-place, same-flag, same-incarnation}

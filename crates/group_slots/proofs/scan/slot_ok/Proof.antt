@@ -1,4 +1,4 @@
--- `versioned_group_data::scan::slot_ok` meets its contract.
+-- `group_slots::scan::slot_ok` meets its contract.
 -- Assumes nothing.
 use borrow.Author.Needs.{needs}
 use Rattle.group_slots.proofs.Scanning.{slot-part, slot-committed, slot-neither}

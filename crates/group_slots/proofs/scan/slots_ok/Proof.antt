@@ -1,4 +1,4 @@
--- `versioned_group_data::scan::slots_ok` meets its contract.
+-- `group_slots::scan::slots_ok` meets its contract.
 -- Assumes nothing.
 use borrow.Author.Needs.{needs}
 use native.Mathlib.Omega.{arith}
