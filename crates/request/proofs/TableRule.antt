@@ -1,15 +1,16 @@
 -- The rule of the code's table: it is the table of `specs/`, row by row.
-use mathlib.Core.Path.{_≡_, refl, ap}
+use mathlib.Core.Path.{_≡_, refl, ap, _∙_}
 use mathlib.Core.Bool.{Bool, true, false, _&&_}
 use mathlib.Core.List.{List, [], _∷_, map}
 use mathlib.Core.Option.{Option, none, some}
-use Prim.Native.Nat.{ℕ, zero, suc, _<_, _≤_}
+use Prim.Native.Nat.{ℕ, zero, suc, _-_, _<_, _≤_}
 use native.Mathlib.Omega.{arith}
 use lib.Dec.{ltb, leb}
 use lib.ListN.{length, getD}
 use borrow.Author.Tests.{ltb-true, leb-true}
 use Rattle.types.specs.Value.{valueWidth}
-use Rattle.request.specs.Table.{IndexField, Row, LastCommitted, row, table, rowOf}
+use Rattle.request.specs.Table.{IndexField, Purpose, Edits, Reads, Materializes, Finalizes, Row, LastCommitted, row, table, rowOf}
+use Rattle.request.specs.Request.{lastIndex}
 use Rattle.request.specs.Table.{at}
 use Rattle.request.specs.Rows.{placeOf, lastOf, layout}
 use Rattle.request.specs.declared.table.Row.{Row as CodeRow}
@@ -20,16 +21,33 @@ getD-map f [] i a b h = absurd (omega arith)
 getD-map f (x ∷ l) zero a b h = refl
 getD-map f (x ∷ l) (suc i) a b h = getD-map f l i a b (omega arith)
 
+-- How often a request adds to its index: what is left below the greatest word.
+unfoldable pub addedTo : Option IndexField → ℕ
+addedTo i = 4294967295 - lastOf i
+
 -- A row as the code's table has it: its cells, and the row that they make.
 abbrev pub cellsOf : Row → Cells
-cellsOf r = record { 0 = r .fixed; 1 = r .each; 2 = placeOf (r .index); 3 = lastOf (r .index) }
+cellsOf r = record { 0 = r .fixed; 1 = r .each; 2 = placeOf (r .index); 3 = addedTo (r .index) }
 
 abbrev fromCells : Cells → CodeRow
-fromCells c = record { fixed = c .0; each = c .1; index = c .2; last = c .3 }
+fromCells c = record { fixed = c .0; each = c .1; index = c .2; last = 4294967295 - c .3 }
+
+last-left : (i : Option IndexField) → 4294967295 - addedTo i ≡ lastOf i
+unfolding addedTo lastOf lastIndex
+last-left none = refl
+last-left (some f) = go (f .purpose) where
+  go : (p : Purpose) → 4294967295 - (4294967295 - lastIndex p) ≡ lastIndex p
+  go Edits = refl
+  go Reads = refl
+  go Materializes = refl
+  go Finalizes = refl
+
+from-cells : (r : Row) → fromCells (cellsOf r) ≡ layout r
+from-cells r = λ i. record { fixed = r .fixed; each = r .each; index = placeOf (r .index); last = last-left (r .index) i }
 
 pub code-row : (rows : List Cells) → rows ≡ map cellsOf table → (d : Cells) (k : ℕ) → k < 16 → fromCells (getD rows k d) ≡ layout (rowOf k)
 unfolding table rowOf
-code-row rows e d k h = rw e (ap fromCells (getD-map cellsOf table k (row LastCommitted 1 0 none) d h))
+code-row rows e d k h = rw e (ap fromCells (getD-map cellsOf table k (row LastCommitted 1 0 none) d h) ∙ from-cells (rowOf k))
 
 -- What holds of each row holds of the row of any number.
 every : (Row → Bool) → List Row → Bool

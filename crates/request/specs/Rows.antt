@@ -10,8 +10,9 @@ unfoldable pub placeOf : Option IndexField → ℕ
 placeOf none = 0
 placeOf (some f) = f .place
 
+-- A kind without an index has no last one: any word will do.
 unfoldable pub lastOf : Option IndexField → ℕ
-lastOf none = 0
+lastOf none = 4294967295
 lastOf (some f) = lastIndex (f .purpose)
 
 abbrev pub layout : Row → CodeRow

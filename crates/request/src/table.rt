@@ -16,35 +16,35 @@ pub struct Row {
     pub last: u32,
 }
 
-// The four of a row, in the order of its fields.
-struct Cells(usize, usize, usize, u32);
+// What a row is made of, in bytes, so that the whole table is a few words: `fixed`, `each`, `index`, and how often a request adds to its index.
+struct Cells(u8, u8, u8, u8);
 
-const LAST: u32 = 4294967294;
+const VALUE: u8 = VALUE_WIDTH as u8;
 
-// Materialising adds to an index twice.
-const LAST_MATERIALIZED: u32 = 4294967293;
+// An index to which nothing is added can be any word.
+const LARGEST: u32 = 4294967295;
 
 const TABLE: [Cells; 16] = [
     // 0: last committed
     Cells(1, 0, 0, 0),
     // 1 to 7: base, write, delta, estimate, remove, fetch, materialize
-    Cells(1 + VALUE_WIDTH, 0, 0, 0),
-    Cells(3 + VALUE_WIDTH, 0, 2, LAST),
-    Cells(19, 0, 2, LAST),
-    Cells(2, 0, 2, LAST),
-    Cells(2, 0, 2, LAST),
-    Cells(2, 0, 2, LAST),
-    Cells(2, 0, 2, LAST_MATERIALIZED),
+    Cells(1 + VALUE, 0, 0, 0),
+    Cells(3 + VALUE, 0, 2, 1),
+    Cells(19, 0, 2, 1),
+    Cells(2, 0, 2, 1),
+    Cells(2, 0, 2, 1),
+    Cells(2, 0, 2, 1),
+    Cells(2, 0, 2, 2),
     // 8 to 10: group base, exchange, group write
-    Cells(3, VALUE_WIDTH, 0, 0),
-    Cells(2 + VALUE_WIDTH, 0, 0, 0),
-    Cells(5, VALUE_WIDTH, 2, LAST),
+    Cells(3, VALUE, 0, 0),
+    Cells(2 + VALUE, 0, 0, 0),
+    Cells(5, VALUE, 2, 1),
     // 11 to 15: group estimate, remove, fetch, size, finalize
-    Cells(2, 0, 2, LAST),
-    Cells(2, 0, 2, LAST),
-    Cells(3, 0, 3, LAST),
-    Cells(2, 0, 2, LAST),
-    Cells(2, 0, 2, LAST),
+    Cells(2, 0, 2, 1),
+    Cells(2, 0, 2, 1),
+    Cells(3, 0, 3, 1),
+    Cells(2, 0, 2, 1),
+    Cells(2, 0, 2, 1),
 ];
 
 pub fn row_of(kind: usize) -> Row
@@ -52,10 +52,15 @@ pub fn row_of(kind: usize) -> Row
     ensures row { λ r. ⌜ r ≡ layout (rowOf kind) ⌝ }
 {
     let cells = TABLE[kind];
+    let fixed = cells.0 as usize;
+    let each = cells.1 as usize;
+    let index = cells.2 as usize;
+    let added = cells.3 as u32;
+    let last = LARGEST - added;
     Row {
-        fixed: cells.0,
-        each: cells.1,
-        index: cells.2,
-        last: cells.3,
+        fixed,
+        each,
+        index,
+        last,
     }
 }

@@ -197,3 +197,22 @@ module _ (i n m used : ℕ) (s t : List ℕ) where
   pub resized-down : m < n → t ≡ closed (n - m) (i + m) used s → t ≡ resized i n m used s
   unfolding resized
   resized-down h e = rw (lt-leb n m h) e
+
+-- a run that keeps its length keeps the words
+pub opened-none : (i n : ℕ) (s : List ℕ) → i ≤ n → opened 0 i n s ≡ s
+unfolding opened
+opened-none i n s h =
+    let e : i + 0 ≡ i = omega arith in
+    let f : n + 0 ≡ n = omega arith in
+    let g : slotWidth * n ≡ slotWidth * i + slotWidth * (n - i) = omega arith in
+    let rest : drop (slotWidth * n) s ≡ drop (slotWidth * (n - i)) (drop (slotWidth * i) s) =
+    ap (λ k. drop k s) g ∙ sym (drop-drop (slotWidth * (n - i)) (slotWidth * i) s)
+    in
+    rw (e, f, rest, take-append-drop (slotWidth * (n - i)) (drop (slotWidth * i) s)) (take-append-drop (slotWidth * i) s)
+
+pub resized-same : (i n m used : ℕ) (s : List ℕ) → n ≡ m → i + n ≤ used → s ≡ resized i n m used s
+unfolding resized
+resized-same i n m used s e h =
+    let f : m - n ≡ 0 = omega arith in
+    let g : n ≤ m = omega arith in
+    sym (rw (le-leb n m g, f) (opened-none (i + n) used s h))

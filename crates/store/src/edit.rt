@@ -97,7 +97,10 @@ pub fn resize(s: &mut [u32], i: usize, n: usize, m: usize, used: usize)
     requires room { ⌜ used + m ≤ slotsIn (length (now s)) + n ⌝ }
     ensures resized { λ r. ⌜ now (s .exit) ≡ resized i n m used (now (s .entry)) ⌝ }
 {
-    if n <= m {
+    if n == m {
+        return;
+    }
+    if n < m {
         open_slots(s, i + n, used, m - n);
         return;
     }
