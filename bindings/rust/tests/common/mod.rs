@@ -1,0 +1,7 @@
+//! What the tests share. Each file of tests uses a part of it.
+#![allow(dead_code)]
+
+pub mod lent;
+pub mod random;
+pub mod valid;
+pub mod words;
