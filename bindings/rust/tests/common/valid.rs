@@ -171,16 +171,16 @@ fn put_committed(groups: &mut Groups, unit: &Slot) -> Option<()> {
 
 fn group_slots(groups: &Groups) -> Vec<Slot> {
     let updates = groups.updates.iter().flat_map(|(&(key, place), update)| {
-        let head = move |part| {
-            [1, key, place, part, 0, u32::from(update.estimate), update.incarnation]
-        };
+        let head =
+            move |part| [1, key, place, part, 0, u32::from(update.estimate), update.incarnation];
         let members = update.members.iter();
         let members = members.map(move |(tag, value)| [&head(1 + tag)[..], value].concat());
         std::iter::once(slot(&head(0))).chain(members.map(|words| slot(&words)))
     });
-    let committed = groups.committed.iter().map(|(&(key, tag), value)| {
-        slot(&[&[2, key, tag, 0, 0, 0, 0], &value[..]].concat())
-    });
+    let committed = groups
+        .committed
+        .iter()
+        .map(|(&(key, tag), value)| slot(&[&[2, key, tag, 0, 0, 0, 0], &value[..]].concat()));
     updates.chain(committed).collect()
 }
 
