@@ -10,7 +10,7 @@ use common::words::*;
 use proved_mvhashmap::{MVHashMap, Refusal};
 
 const UNITS: usize = 24;
-const HISTORIES: u64 = 200;
+const HISTORIES: u64 = 600;
 const REQUESTS: usize = 200;
 
 fn some_value(random: &mut Random, exchanged: bool) -> Value {
