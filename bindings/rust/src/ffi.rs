@@ -9,7 +9,19 @@ use crate::MAX_UNITS;
 /// 32-bit words of a unit, the room for one entry.
 pub(crate) const UNIT_WORDS: usize = 32;
 
-// crates/mvhashmap_c/mvhashmap.h
+/// Each area is a pointer and its length in words: request, data store, group store, answer.
+type Call = unsafe extern "C" fn(
+    *const u32,
+    usize,
+    *mut u32,
+    usize,
+    *mut u32,
+    usize,
+    *mut u32,
+    usize,
+) -> u32;
+
+// As in crates/mvhashmap_c/mvhashmap.h.
 extern "C" {
     fn mvhashmap_call(
         request: *const u32,
@@ -34,6 +46,30 @@ extern "C" {
     ) -> u32;
 }
 
+/// Lends four areas, which do not overlap since Rust's references do not, to one of the calls.
+///
+/// # Safety
+///
+/// What the call asks of the words of `data` and `group` holds of them.
+unsafe fn lend(
+    call: Call,
+    request: &[u32],
+    data: &mut [u32],
+    group: &mut [u32],
+    answer: &mut [u32],
+) -> u32 {
+    call(
+        request.as_ptr(),
+        request.len(),
+        data.as_mut_ptr(),
+        data.len(),
+        group.as_mut_ptr(),
+        group.len(),
+        answer.as_mut_ptr(),
+        answer.len(),
+    )
+}
+
 /// The open call: any words, and 0 or the number of a refusal.
 pub(crate) fn call(
     request: &[u32],
@@ -41,19 +77,8 @@ pub(crate) fn call(
     group: &mut [u32],
     answer: &mut [u32],
 ) -> u32 {
-    // SAFETY: four areas that do not overlap, each with its length; the call is total.
-    unsafe {
-        mvhashmap_call(
-            request.as_ptr(),
-            request.len(),
-            data.as_mut_ptr(),
-            data.len(),
-            group.as_mut_ptr(),
-            group.len(),
-            answer.as_mut_ptr(),
-            answer.len(),
-        )
-    }
+    // SAFETY: the open call takes any words.
+    unsafe { lend(mvhashmap_call, request, data, group, answer) }
 }
 
 /// A data store and a group store that are valid: they start cleared, nothing but a call writes
@@ -79,19 +104,8 @@ impl Stores {
 
     /// The inner call: as the open one, without its look at every word of both stores.
     pub(crate) fn call(&mut self, request: &[u32], answer: &mut [u32]) -> u32 {
-        // SAFETY: four areas that do not overlap, each with its length; the stores are valid.
-        unsafe {
-            mvhashmap_inner_call(
-                request.as_ptr(),
-                request.len(),
-                self.data.as_mut_ptr(),
-                self.data.len(),
-                self.group.as_mut_ptr(),
-                self.group.len(),
-                answer.as_mut_ptr(),
-                answer.len(),
-            )
-        }
+        // SAFETY: these stores are valid.
+        unsafe { lend(mvhashmap_inner_call, request, &mut self.data, &mut self.group, answer) }
     }
 }
 

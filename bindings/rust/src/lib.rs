@@ -66,3 +66,8 @@ pub const ANSWER_WORDS: usize = 451;
 
 /// How many words a unit of a store has.
 pub const UNIT_WORDS: usize = ffi::UNIT_WORDS;
+
+/// The README's example is a test too.
+#[cfg(doctest)]
+#[doc = include_str!("../README.md")]
+struct Readme;

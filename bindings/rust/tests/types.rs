@@ -18,6 +18,29 @@ fn refusals_and_their_numbers() {
     assert_eq!(Refusal::UnitsExhausted.number(), 14);
 }
 
+/// The header for C names the same numbers and limits.
+#[test]
+fn the_header_agrees() {
+    const HEADER: &str = include_str!("../../../crates/mvhashmap_c/mvhashmap.h");
+    let says = |name: &str, number: usize| {
+        let line = format!("MVHASHMAP_{name} = {number}");
+        let lines = HEADER.lines().map(|line| line.trim().trim_end_matches(','));
+        assert_eq!(lines.filter(|&found| found == line).count(), 1, "{line}");
+    };
+    says("ACCEPTED", 0);
+    for refusal in Refusal::ALL {
+        let name: String = format!("{refusal:?}")
+            .char_indices()
+            .flat_map(|(at, c)| [(at > 0 && c.is_uppercase()).then_some('_'), Some(c)])
+            .flatten()
+            .collect();
+        says(&name.to_uppercase(), refusal.number() as usize);
+    }
+    says("UNIT_WORDS", UNIT_WORDS);
+    says("MAX_UNITS", MAX_UNITS);
+    says("ANSWER_WORDS", ANSWER_WORDS);
+}
+
 #[test]
 fn each_refusal_has_a_text_of_its_own() {
     let texts: HashSet<String> = Refusal::ALL.iter().map(Refusal::to_string).collect();
