@@ -46,7 +46,8 @@ impl MVHashMap {
     }
 
     /// A request in words, answered in words at the start of `answer`, which has at least
-    /// [`ANSWER_WORDS`]. The repository's README has the format. A refusal leaves `answer` as it is.
+    /// [`ANSWER_WORDS`]. The repository's README has the format. A refusal leaves `answer` as it
+    /// is.
     pub fn request(&self, request: &[u32], answer: &mut [u32]) -> Result<(), Refusal> {
         Refusal::of_result(self.lock().stores.call(request, answer))
     }
@@ -87,9 +88,9 @@ impl fmt::Debug for MVHashMap {
 /// The open call on lent stores: any words, and the stores are looked at whole at every call.
 ///
 /// `data` and `group` are stores of the caller's own; cleared words are empty ones. A store of W
-/// words has W / 32 units, at most [`MAX_UNITS`](crate::MAX_UNITS); words past them are not touched. The answer's
-/// words are put at the start of `answer`, which has at least [`ANSWER_WORDS`]. A refusal changes
-/// no word of the three.
+/// words has W / 32 units, at most [`MAX_UNITS`](crate::MAX_UNITS); words past them are not
+/// touched. The answer's words are put at the start of `answer`, which has at least
+/// [`ANSWER_WORDS`]. A refusal changes no word of the three.
 pub fn call(
     request: &[u32],
     data: &mut [u32],
