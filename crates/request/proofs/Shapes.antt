@@ -107,6 +107,19 @@ module _ (t : List ℕ) where
         shape-count h =
             rw (lt-ltb (rowAt t .fixed) (length t) whole, ne-eqb (length t) (countOf t + 1) (λ f. h (f ∙ ap (λ (n : ℕ). n + 1) (sym k)))) refl
 
+        pub shape-none : length t ≡ count + 1 → row .each ≡ 0 → eqb count (row .fixed) ≡ shapeOk t
+        unfolding shapeOk
+        shape-none h z =
+            let none : rowAt t .each ≡ 0 = sym each-is ∙ z in
+            let all : rowAt t .fixed + rowAt t .each * length (tags t) ≡ row .fixed = rw (none, fixed-is) (omega arith) in
+            rw (
+              lt-ltb (rowAt t .fixed) (length t) whole,
+              eq-eqb (length t) (countOf t + 1) (h ∙ ap (λ (m : ℕ). m + 1) k),
+              all,
+              k,
+            )
+            refl
+
         module _ (set : Set) (s : set ≡ setAt t) (n : ℕ) (l : n ≡ length (tagsOf (set .low) (set .high))) where
           set-length : n ≡ length (tags t)
           set-length = l ∙ ap (λ (x : Set). length (tagsOf (x .low) (x .high))) s ∙ ap length (tags-setAt t)

@@ -66,5 +66,8 @@ pub fn shape_ok(t: &[u32]) -> bool
     if t.len() != count + 1 {
         return false;
     }
+    if each == 0 {
+        return count == fixed;
+    }
     count == fixed + each * set_at(t).len()
 }

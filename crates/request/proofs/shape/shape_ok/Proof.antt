@@ -1,6 +1,6 @@
 use native.Mathlib.Omega.{arith}
 use borrow.Author.Needs.{needs}
-use Rattle.request.proofs.Shapes.{shape-empty, shape-short, shape-count, shape-set, whole, values-le, inside, count-lt}
+use Rattle.request.proofs.Shapes.{shape-empty, shape-short, shape-count, shape-none, shape-set, whole, values-le, inside, count-lt}
 use Rattle.request.proofs.shape.shape_ok.Statement.{statement}
 use Rattle.request.proofs.shape.shape_ok.Tie as tie
 
@@ -23,8 +23,13 @@ returns-3 : tie.Need-returns-3
 returns-3 c =
     shape-count _ _ (c .before .before .before .row-at .ensures) (c .before .before .if2 .left) _ (c .before .count-of .ensures) (c .if3 .taken)
 
+returns-4 : tie.Need-returns-4
+returns-4 c =
+    shape-none _ _ (c .before .before .before .before .row-at .ensures) (c .before .before .before .if2 .left) _ (c .before .before .count-of .ensures)
+    (c .before .if3 .left) (c .if4 .taken)
+
 set-at-requires : tie.Need-set-at-requires
-set-at-requires c κs = whole _ _ (c .before .before .before .row-at .ensures) (c .before .before .if2 .left)
+set-at-requires c κs = whole _ _ (c .before .before .before .before .row-at .ensures) (c .before .before .before .if2 .left)
 
 len-requires : tie.Need-len-requires
 len-requires c κs = search needs
@@ -32,17 +37,17 @@ len-requires c κs = search needs
 mul-result : tie.Need-mul-result
 mul-result c =
     record
-    { fits = omega (arith, values-le _ _ (c .before .before .before .before .before .row-at .ensures) (c .before .before .before .before .if2 .left) _ (c .before .before .before .count-of .ensures) _ (c .before .set-at .ensures) _ (c .len .ensures)) }
+    { fits = omega (arith, values-le _ _ (c .before .before .before .before .before .before .row-at .ensures) (c .before .before .before .before .before .if2 .left) _ (c .before .before .before .before .count-of .ensures) _ (c .before .set-at .ensures) _ (c .len .ensures)) }
 
 add-result : tie.Need-add-result
 add-result c =
     record
-    { fits = omega (arith, (inside _ _ (c .before .before .before .before .before .row-at .ensures) (whole _ _ (c .before .before .before .before .before .row-at .ensures) (c .before .before .before .before .if2 .left))) .few, values-le _ _ (c .before .before .before .before .before .row-at .ensures) (c .before .before .before .before .if2 .left) _ (c .before .before .before .count-of .ensures) _ (c .before .set-at .ensures) _ (c .len .ensures)) }
+    { fits = omega (arith, (inside _ _ (c .before .before .before .before .before .before .row-at .ensures) (whole _ _ (c .before .before .before .before .before .before .row-at .ensures) (c .before .before .before .before .before .if2 .left))) .few, values-le _ _ (c .before .before .before .before .before .before .row-at .ensures) (c .before .before .before .before .before .if2 .left) _ (c .before .before .before .before .count-of .ensures) _ (c .before .set-at .ensures) _ (c .len .ensures)) }
 
-returns-4 : tie.Need-returns-4
-returns-4 c =
-    shape-set _ _ (c .before .before .before .before .before .row-at .ensures) (c .before .before .before .before .if2 .left) _
-    (c .before .before .before .count-of .ensures) _ (c .before .set-at .ensures) _ (c .len .ensures) (c .before .before .if3 .left)
+returns-5 : tie.Need-returns-5
+returns-5 c =
+    shape-set _ _ (c .before .before .before .before .before .before .row-at .ensures) (c .before .before .before .before .before .if2 .left) _
+    (c .before .before .before .before .count-of .ensures) _ (c .before .set-at .ensures) _ (c .len .ensures) (c .before .before .before .if3 .left)
 
 pub shape-ok-spec : {M : Type 1} → statement M
 shape-ok-spec =
@@ -54,8 +59,9 @@ shape-ok-spec =
     count-of-requires
     add-if3
     returns-3
+    returns-4
     set-at-requires
     len-requires
     mul-result
     add-result
-    returns-4)
+    returns-5)
