@@ -8,7 +8,12 @@ ghost use Rattle.mvhashmap.specs.Call.{Calls};
 
 // A call over any words.
 #[no_mangle]
-pub extern "C" fn mvhashmap_call(t: &[u32], data: &mut [u32], group: &mut [u32], out: &mut [u32]) -> u32
+pub extern "C" fn mvhashmap_call(
+    t: &[u32],
+    data: &mut [u32],
+    group: &mut [u32],
+    out: &mut [u32],
+) -> u32
     ensures called { λ r.
         ⌜ Calls (now (t .entry)) (now («data» .entry)) (now (group .entry)) (now (out .entry)) r (now («data» .exit)) (now (group .exit)) (now (out .exit)) ⌝ }
 {
@@ -17,7 +22,12 @@ pub extern "C" fn mvhashmap_call(t: &[u32], data: &mut [u32], group: &mut [u32],
 
 // A call by a caller who knows that the stores are valid: cleared words, or what a call left of such.
 #[no_mangle]
-pub extern "C" fn mvhashmap_inner_call(t: &[u32], data: &mut [u32], group: &mut [u32], out: &mut [u32]) -> u32
+pub extern "C" fn mvhashmap_inner_call(
+    t: &[u32],
+    data: &mut [u32],
+    group: &mut [u32],
+    out: &mut [u32],
+) -> u32
     requires data { ⌜ dataValid (now «data») ≡ true ⌝ }
     requires group { ⌜ groupValid (now group) ≡ true ⌝ }
     ensures called { λ r.

@@ -15,7 +15,6 @@ pub mod Scanning
 pub mod SlotTest
 pub mod Walks
 pub mod Steps
-pub mod Descent
 pub mod Bounds
 pub mod Shortcuts
 pub mod Histories

@@ -9,7 +9,7 @@ use types::output::MVDataOutput;
 use types::value::AsU128;
 use types::value::ValueWithLayout;
 ghost use mathlib.Core.Path.{_≡_};
-ghost use mathlib.Core.Bool.{true};
+ghost use mathlib.Core.Bool.{true, false};
 ghost use Prim.Native.Nat.{_+_, _-_, _*_, _<_, _≤_};
 ghost use lib.ListN.{length, getD};
 ghost use Rattle.number.specs.Number.{valueOf};
@@ -23,7 +23,7 @@ ghost use Rattle.model.specs.Data.{atEnd, onto, belowDeltas, atWrite, dependenc
 ghost use Rattle.model.specs.Rows.{downAt};
 ghost use Rattle.versioned_data.specs.Layout.{entriesIn, dataValid};
 ghost use Rattle.versioned_data.specs.Output.{outputOf};
-ghost use Rattle.versioned_data.specs.Step.{stepOf};
+ghost use Rattle.versioned_data.specs.Step.{isPassed};
 
 // What the walk finds where no entry is left.
 fn at_end(acc: Accumulator) -> MVDataOutput
@@ -101,40 +101,50 @@ fn at_write(s: &[u32], j: usize, at: ShiftedTxnIndex, acc: Accumulator) -> MVDat
     }
 }
 
-// One step of the walk.
-pub enum Walked {
-    Stop(MVDataOutput),
-    // A delta was passed: what the walk carries on.
-    Deeper(Accumulator),
+// Whether the walk passes the entry before position i: a delta of the key that is done and has no shortcut.
+fn passes(s: &[u32], key: u32, i: usize) -> bool
+    requires store { ⌜ dataValid (now s) ≡ true ⌝ }
+    requires inside { ⌜ i ≤ length (entriesIn (now s)) ⌝ }
+    ensures passed { λ r. ⌜ r ≡ isPassed (downAt key i (entriesIn (now (s .entry)))) ⌝ }
+{
+    if i == 0 {
+        return false;
+    }
+    let j = i - 1;
+    if word(s, j, 1) != key {
+        return false;
+    }
+    if word(s, j, 5) == 1 {
+        return false;
+    }
+    word(s, j, 4) == 1
 }
 
-// What the walk does at the entry before position i, if that has the key.
-fn step(s: &[u32], key: u32, i: usize, acc: Accumulator) -> Walked
+// What the walk finds where it stops: at the entry before position i, or with none of the key left.
+fn stop(s: &[u32], key: u32, i: usize, acc: Accumulator) -> MVDataOutput
     requires store { ⌜ dataValid (now s) ≡ true ⌝ }
     requires inside { ⌜ i ≤ length (entriesIn (now s)) ⌝ }
     requires canonical { ⌜ acc ≡ accumulatorOf (exactly acc) ⌝ }
     requires valid { ⌜ validSoFar (exactly acc) ≡ true ⌝ }
-    ensures stepped { λ r. ⌜ r ≡ stepOf (exactly acc) (downAt key i (entriesIn (now (s .entry)))) ⌝ }
+    requires stops { ⌜ isPassed (downAt key i (entriesIn (now s))) ≡ false ⌝ }
+    ensures found { λ r. ⌜ r ≡ outputOf (walk (exactly acc) (downAt key i (entriesIn (now (s .entry))))) ⌝ }
 {
     if i == 0 {
-        return Walked::Stop(at_end(acc));
+        return at_end(acc);
     }
     let j = i - 1;
     if word(s, j, 1) != key {
-        return Walked::Stop(at_end(acc));
+        return at_end(acc);
     }
     let at = ShiftedTxnIndex::from_word(word(s, j, 2));
-    if word(s, j, 5) == 1 {
-        return Walked::Stop(dependency(at));
+    let flag = word(s, j, 5);
+    if flag == 1 {
+        return dependency(at);
     }
-    let form = word(s, j, 4);
-    if form == 0 {
-        return Walked::Stop(at_write(s, j, at, acc));
+    if word(s, j, 4) == 0 {
+        return at_write(s, j, at, acc);
     }
-    if form != 1 {
-        return Walked::Stop(onto(acc, number::words::read(s, 32 * j + 23)));
-    }
-    Walked::Deeper(acc.accumulate(delta::words::read(s, 32 * j + 6)))
+    onto(acc, number::words::read(s, 32 * j + 23))
 }
 
 // The walk from the entry before position i down, while the key is the same: the shifted index falls at each call.
@@ -145,8 +155,11 @@ pub fn walk(s: &[u32], key: u32, i: usize, acc: Accumulator) -> MVDataOutput
     requires valid { ⌜ validSoFar (exactly acc) ≡ true ⌝ }
     ensures found { λ r. ⌜ r ≡ outputOf (walk (exactly acc) (downAt key i (entriesIn (now (s .entry))))) ⌝ }
 {
-    match step(s, key, i, acc) {
-        Walked::Stop(found) => found,
-        Walked::Deeper(next) => walk(s, key, i - 1, next),
+    if !passes(s, key, i) {
+        return stop(s, key, i, acc);
     }
+    let j = i - 1;
+    let previous = delta::words::read(s, 32 * j + 6);
+    let next = acc.accumulate(previous);
+    walk(s, key, j, next)
 }

@@ -1,15 +1,20 @@
 -- `versioned_data::walk::walk` meets its contract.
 -- Assumes nothing.
-use borrow.Author.Needs.{needs}
+use mathlib.Core.Path.{refl}
 use native.Mathlib.Omega.{arith}
+use borrow.Author.Needs.{needs}
+use Rattle.store.proofs.Words.{slot-inside, part-inside}
+use Rattle.versioned_data.proofs.Steps.{last-inside, last-few, not-passed, is-passed, passed-pos, passed-form, slot-delta, deeper-canonical, deeper-valid, deeper-walk}
 use Prim.Native.Nat.{ℕ, _<_}
 use borrow.Fn.Kinds.{In}
 use borrow.Fn.PlainCycle.{Measures, is, falls, and}
-use Rattle.versioned_data.proofs.Descent.{walk-stops, deeper-pos, deeper-canonical, deeper-valid, deeper-walk}
 use Rattle.versioned_data.proofs.walk.walk.Reads as walk
 use Rattle.versioned_data.proofs.walk.walk.Kinds as walk-kinds
 use Rattle.versioned_data.proofs.walk.+walk.Lts-walk as walk-lts
-use Rattle.versioned_data.proofs.walk.step.Reads as step-reads
+use Rattle.delta.proofs.Accumulator.accumulate.Reads as accumulate-reads
+use Rattle.delta.proofs.words.read.Reads as read-reads
+use Rattle.versioned_data.proofs.walk.passes.Reads as passes-reads
+use Rattle.versioned_data.proofs.walk.stop.Reads as stop-reads
 use Rattle.versioned_data.proofs.walk.+walk.{statement}
 use Rattle.versioned_data.proofs.walk.+walk.Tie.{close}
 
@@ -22,75 +27,184 @@ walk-at t = and 1 walk-kinds.ps (is 1 walk-kinds.ps μ-walk t) walk.Pre
 abbrev walk-below : ℕ → In 1 walk-kinds.ps
 walk-below t = and 1 walk-kinds.ps (falls 1 walk-kinds.ps _<_ μ-walk t) walk.Pre
 
-walk-step-requires : (t : ℕ) → walk-lts.Need-step-requires (
-  step-reads.Asked,
-  step-reads.Learnt,
+walk-passes-requires : (t : ℕ) → walk-lts.Need-passes-requires (
+  passes-reads.Asked,
+  passes-reads.Learnt,
+  stop-reads.Asked,
+  stop-reads.Learnt,
+  read-reads.Asked,
+  read-reads.Learnt,
+  accumulate-reads.Asked,
+  accumulate-reads.Learnt,
   walk-below t,
   walk.Post,
 ) (walk-at t) walk.Post
-walk-step-requires t c κs = search needs
+walk-passes-requires t c κs = search needs
 
-walk-enum-known-found : (t : ℕ) → walk-lts.Need-enum-known-found (
-  step-reads.Asked,
-  step-reads.Learnt,
+walk-stop-requires : (t : ℕ) → walk-lts.Need-stop-requires (
+  passes-reads.Asked,
+  passes-reads.Learnt,
+  stop-reads.Asked,
+  stop-reads.Learnt,
+  read-reads.Asked,
+  read-reads.Learnt,
+  accumulate-reads.Asked,
+  accumulate-reads.Learnt,
   walk-below t,
   walk.Post,
 ) (walk-at t) walk.Post
-walk-enum-known-found t c = search needs
-
-walk-enum-known-next : (t : ℕ) → walk-lts.Need-enum-known-next (
-  step-reads.Asked,
-  step-reads.Learnt,
-  walk-below t,
-  walk.Post,
-) (walk-at t) walk.Post
-walk-enum-known-next t c = search needs
-
-walk-sub-walk : (t : ℕ) → walk-lts.Need-sub-walk (
-  step-reads.Asked,
-  step-reads.Learnt,
-  walk-below t,
-  walk.Post,
-) (walk-at t) walk.Post
-walk-sub-walk t c = omega (arith, deeper-pos _ (c .before .before .before .before .before .pre .1 .0) _ _ (c .before .before .before .before .before .pre .1 .1 .0) _ _ (c .before .before .before .step .ensures) _ (c .before .next .given .1))
-
-walk-walk-requires : (t : ℕ) → walk-lts.Need-walk-requires (
-  step-reads.Asked,
-  step-reads.Learnt,
-  walk-below t,
-  walk.Post,
-) (walk-at t) walk.Post
-walk-walk-requires t c κs = (omega (arith, deeper-pos _ (c .before .before .before .before .before .pre .1 .0) _ _ (c .before .before .before .before .before .pre .1 .1 .0) _ _ (c .before .before .before .step .ensures) _ (c .before .next .given .1)), (c .before .before .before .before .before .pre .1 .0, (omega arith, (deeper-canonical _ (c .before .before .before .before .before .pre .1 .0) _ _ (c .before .before .before .before .before .pre .1 .1 .0) _ _ (c .before .before .before .step .ensures) _ (c .before .next .given .1), deeper-valid _ (c .before .before .before .before .before .pre .1 .0) _ _ (c .before .before .before .before .before .pre .1 .1 .0) _ _ (c .before .before .before .step .ensures) _ (c .before .next .given .1) (c .before .before .before .before .before .pre .1 .1 .1 .1)))))
+walk-stop-requires t c κs = (
+  c .before .before .before .pre .1 .0,
+  (
+    c .before .before .before .pre .1 .1 .0,
+    (
+      c .before .before .before .pre .1 .1 .1 .0,
+      (c .before .before .before .pre .1 .1 .1 .1, not-passed _ _ (c .before .passes .ensures) (c .if1 .taken)),
+    ),
+  ),
+)
 
 walk-returns : (t : ℕ) → walk-lts.Need-returns (
-  step-reads.Asked,
-  step-reads.Learnt,
+  passes-reads.Asked,
+  passes-reads.Learnt,
+  stop-reads.Asked,
+  stop-reads.Learnt,
+  read-reads.Asked,
+  read-reads.Learnt,
+  accumulate-reads.Asked,
+  accumulate-reads.Learnt,
   walk-below t,
   walk.Post,
 ) (walk-at t) walk.Post
-walk-returns t c = walk-stops _ _ _ _ (c .before .before .before .step .ensures) (c .before .found .given .1)
+walk-returns t c = search needs
+
+walk-sub-j : (t : ℕ) → walk-lts.Need-sub-j (
+  passes-reads.Asked,
+  passes-reads.Learnt,
+  stop-reads.Asked,
+  stop-reads.Learnt,
+  read-reads.Asked,
+  read-reads.Learnt,
+  accumulate-reads.Asked,
+  accumulate-reads.Learnt,
+  walk-below t,
+  walk.Post,
+) (walk-at t) walk.Post
+walk-sub-j t c =
+    omega (arith, (passed-pos _ _ _ (c .before .before .before .pre .1 .1 .0) (is-passed _ _ (c .before .passes .ensures) (c .if1 .left))))
+
+walk-mul-read : (t : ℕ) → walk-lts.Need-mul-read (
+  passes-reads.Asked,
+  passes-reads.Learnt,
+  stop-reads.Asked,
+  stop-reads.Learnt,
+  read-reads.Asked,
+  read-reads.Learnt,
+  accumulate-reads.Asked,
+  accumulate-reads.Learnt,
+  walk-below t,
+  walk.Post,
+) (walk-at t) walk.Post
+walk-mul-read t c =
+    omega (arith, slot-inside _ _ (last-few _ _ (passed-pos _ _ _ (c .before .before .before .pre .1 .1 .0) (is-passed _ _ (c .before .passes .ensures) (c .if1 .left))) (c .before .before .before .pre .1 .1 .0)))
+
+walk-add-read : (t : ℕ) → walk-lts.Need-add-read (
+  passes-reads.Asked,
+  passes-reads.Learnt,
+  stop-reads.Asked,
+  stop-reads.Learnt,
+  read-reads.Asked,
+  read-reads.Learnt,
+  accumulate-reads.Asked,
+  accumulate-reads.Learnt,
+  walk-below t,
+  walk.Post,
+) (walk-at t) walk.Post
+walk-add-read t c =
+    omega (arith, slot-inside _ _ (last-few _ _ (passed-pos _ _ _ (c .before .before .before .pre .1 .1 .0) (is-passed _ _ (c .before .passes .ensures) (c .if1 .left))) (c .before .before .before .pre .1 .1 .0)))
+
+walk-read-requires : (t : ℕ) → walk-lts.Need-read-requires (
+  passes-reads.Asked,
+  passes-reads.Learnt,
+  stop-reads.Asked,
+  stop-reads.Learnt,
+  read-reads.Asked,
+  read-reads.Learnt,
+  accumulate-reads.Asked,
+  accumulate-reads.Learnt,
+  walk-below t,
+  walk.Post,
+) (walk-at t) walk.Post
+walk-read-requires t c κs =
+    part-inside _ 6 17 _ (last-few _ _ (passed-pos _ _ _ (c .before .before .before .pre .1 .1 .0) (is-passed _ _ (c .before .passes .ensures) (c .if1 .left))) (c .before .before .before .pre .1 .1 .0)) (omega arith)
+
+walk-accumulate-requires : (t : ℕ) → walk-lts.Need-accumulate-requires (
+  passes-reads.Asked,
+  passes-reads.Learnt,
+  stop-reads.Asked,
+  stop-reads.Learnt,
+  read-reads.Asked,
+  read-reads.Learnt,
+  accumulate-reads.Asked,
+  accumulate-reads.Learnt,
+  walk-below t,
+  walk.Post,
+) (walk-at t) walk.Post
+walk-accumulate-requires t c κs =
+    (c .before .before .before .before .pre .1 .1 .1 .1, (slot-delta (c .before .before .before .before .args .s .now) (c .before .before .before .before .pre .1 .0) _ (last-inside _ _ (passed-pos _ _ _ (c .before .before .before .before .pre .1 .1 .0) (is-passed _ _ (c .before .before .passes .ensures) (c .before .if1 .left))) (c .before .before .before .before .pre .1 .1 .0)) (λ i. c .before .before .before .shared-slice-known .given i .fits) _ refl (passed-form _ _ _ (c .before .before .before .before .pre .1 .1 .0) (is-passed _ _ (c .before .before .passes .ensures) (c .before .if1 .left))) _ (c .read .ensures)))
+
+walk-walk-requires : (t : ℕ) → walk-lts.Need-walk-requires (
+  passes-reads.Asked,
+  passes-reads.Learnt,
+  stop-reads.Asked,
+  stop-reads.Learnt,
+  read-reads.Asked,
+  read-reads.Learnt,
+  accumulate-reads.Asked,
+  accumulate-reads.Learnt,
+  walk-below t,
+  walk.Post,
+) (walk-at t) walk.Post
+walk-walk-requires t c κs =
+    (omega (arith, (passed-pos _ _ _ (c .before .before .before .before .before .pre .1 .1 .0) (is-passed _ _ (c .before .before .before .passes .ensures) (c .before .before .if1 .left)))), (c .before .before .before .before .before .pre .1 .0, (omega arith, (deeper-canonical _ _ _ (c .before .before .before .before .before .pre .1 .1 .0) (is-passed _ _ (c .before .before .before .passes .ensures) (c .before .before .if1 .left)) _ _ (c .before .read .ensures) _ (c .accumulate .ensures), deeper-valid _ _ _ (c .before .before .before .before .before .pre .1 .1 .0) (is-passed _ _ (c .before .before .before .passes .ensures) (c .before .before .if1 .left)) _ _ (c .before .read .ensures) _ (c .accumulate .ensures) (c .before .before .before .before .before .pre .1 .1 .1 .1) (slot-delta (c .before .before .before .before .before .args .s .now) (c .before .before .before .before .before .pre .1 .0) _ (last-inside _ _ (passed-pos _ _ _ (c .before .before .before .before .before .pre .1 .1 .0) (is-passed _ _ (c .before .before .before .passes .ensures) (c .before .before .if1 .left))) (c .before .before .before .before .before .pre .1 .1 .0)) (λ i. c .before .before .before .before .shared-slice-known .given i .fits) _ refl (passed-form _ _ _ (c .before .before .before .before .before .pre .1 .1 .0) (is-passed _ _ (c .before .before .before .passes .ensures) (c .before .before .if1 .left))) _ (c .before .read .ensures))))))
 
 walk-returns-2 : (t : ℕ) → walk-lts.Need-returns-2 (
-  step-reads.Asked,
-  step-reads.Learnt,
+  passes-reads.Asked,
+  passes-reads.Learnt,
+  stop-reads.Asked,
+  stop-reads.Learnt,
+  read-reads.Asked,
+  read-reads.Learnt,
+  accumulate-reads.Asked,
+  accumulate-reads.Learnt,
   walk-below t,
   walk.Post,
 ) (walk-at t) walk.Post
-walk-returns-2 t c = deeper-walk _ (c .before .before .before .before .before .before .pre .1 .0) _ _ (c .before .before .before .before .before .before .pre .1 .1 .0) _ _ (c .before .before .before .before .step .ensures) _ (c .before .before .next .given .1) _ (c .walk .ensures)
+walk-returns-2 t c =
+    deeper-walk _ _ _ (c .before .before .before .before .before .before .pre .1 .1 .0) (is-passed _ _ (c .before .before .before .before .passes .ensures) (c .before .before .before .if1 .left)) _ _ (c .before .before .read .ensures) _ (c .before .accumulate .ensures) _ (c .walk .ensures)
 
 pub +walk-spec : {M : Type 1} → statement M
 +walk-spec = close μ-walk λ t. walk-lts.spec (
-  step-reads.Asked,
-  step-reads.Learnt,
+  passes-reads.Asked,
+  passes-reads.Learnt,
+  stop-reads.Asked,
+  stop-reads.Learnt,
+  read-reads.Asked,
+  read-reads.Learnt,
+  accumulate-reads.Asked,
+  accumulate-reads.Learnt,
   walk-below t,
   walk.Post,
 )
     (walk-at t)
     walk.Post
-    (walk-step-requires t)
-    (walk-enum-known-found t)
-    (walk-enum-known-next t)
-    (walk-sub-walk t)
-    (walk-walk-requires t)
+    (walk-passes-requires t)
+    (walk-stop-requires t)
     (walk-returns t)
+    (walk-sub-j t)
+    (walk-mul-read t)
+    (walk-add-read t)
+    (walk-read-requires t)
+    (walk-accumulate-requires t)
+    (walk-walk-requires t)
     (walk-returns-2 t)
