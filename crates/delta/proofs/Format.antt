@@ -9,11 +9,12 @@ use lib.Dec.{leb, eqb, lit<, eqb·suc-zero}
 use lib.IntN.{ℤ, pos, negsuc, natAbs}
 use lib.ListN.{length, take, drop, getD, length-drop}
 use lib.Seq.{take-all, take-add, take-suc, length-take-le}
-use borrow.Author.Tests.{leb-true}
+use mir.Val.{boolByte}
+use borrow.Author.Tests.{leb-true, eq-eqb, ne-eqb}
 use Rattle.number.specs.Words.{digits, valueOfWords, AreWords}
 use Rattle.number.specs.Number.{range}
 use Rattle.number.proofs.Digits.{words-digits, digits-value, value-four, four-below, words-append, words-take, words-drop}
-use Rattle.delta.specs.Delta.{Delta, valid, isMinus, signed, signWord, numberAt, minusZero, minusAt, deltaAt, deltaOk, deltaWords}
+use Rattle.delta.specs.Delta.{Delta, valid, isMinus, isNegative, signed, signWord, numberAt, minusZero, minusAt, deltaAt, deltaOk, deltaWords}
 use Rattle.delta.proofs.Gain.{size-sides, one-side, gain-signed, loss-signed}
 use Rattle.delta.proofs.Merging.{and-left, and-right, valid-bounds}
 
@@ -52,15 +53,30 @@ unfolding signed isMinus
 signed-back (pos n) = refl
 signed-back (negsuc n) = refl
 
-minus-word : (z : ℤ) → not (eqb (signWord z) 0) ≡ isMinus z
+pub minus-word : (z : ℤ) → isNegative (signWord z) ≡ isMinus z
 unfolding signWord isMinus
 minus-word (pos n) = refl
 minus-word (negsuc n) = refl
 
+pub byte-sign : (z : ℤ) → boolByte (isMinus z) ≡ signWord z
+unfolding signWord isMinus
+byte-sign (pos n) = refl
+byte-sign (negsuc n) = refl
+
+pub is-negative : (s : ℕ) → (s ≡ 0 → ⊥) → isNegative s ≡ true
+is-negative s h = rw (ne-eqb s 0 h)
+
+pub is-plus : (s : ℕ) → s ≡ 0 → isNegative s ≡ false
+is-plus s h = rw (eq-eqb s 0 h)
+
 -- a sign of 0 or 1 is the word of its own meaning
-word-of-sign : (s : ℕ) → s ≤ 1 → cond (not (eqb s 0)) 1 0 ≡ s
+word-of-sign : (s : ℕ) → s ≤ 1 → cond (isNegative s) 1 0 ≡ s
 word-of-sign zero h = refl
 word-of-sign (suc s) h = rw (eqb·suc-zero s) (omega arith)
+
+pub word-signed : (s n : ℕ) → s ≤ 1 → not (minusZero (isNegative s) n) ≡ true → signWord (signed (isNegative s) n) ≡ s
+unfolding signWord
+word-signed s n h z = rw (minus-signed (isNegative s) n z) (word-of-sign s h)
 
 -- ---- the parts of the words
 
@@ -90,11 +106,7 @@ sign-part d = refl
 
 minus-part : (d : Delta) → minusAt (deltaWords d) ≡ isMinus (d .update)
 unfolding minusAt
-minus-part d = ap (λ (x : ℕ). not (eqb x 0)) (sign-part d) ∙ minus-word (d .update)
-
-sign-back : (ws : List ℕ) → getD ws 16 0 ≤ 1 → cond (minusAt ws) 1 0 ≡ getD ws 16 0
-unfolding minusAt
-sign-back ws h = word-of-sign (getD ws 16 0) h
+minus-part d = ap isNegative (sign-part d) ∙ minus-word (d .update)
 
 parts : (ws : List ℕ) → length ws ≡ 17 → take 4 (drop 0 ws) ++ take 4 (drop 4 ws) ++ take 4 (drop 8 ws) ++ take 4 (drop 12 ws) ++ (getD ws 16 0 ∷ []) ≡ ws
 parts ws e =
@@ -103,7 +115,7 @@ parts ws e =
     ∙ ap (λ (l : List ℕ). l ++ (getD ws 16 0 ∷ []))
     (take-add 12 4 ws ∙ ap (λ (l : List ℕ). l ++ take 4 (drop 12 ws)) (take-add 8 4 ws ∙ ap (λ (l : List ℕ). l ++ take 4 (drop 8 ws)) (take-add 4 4 ws))))
 
-sign-small : (z : ℤ) → leb (signWord z) 1 ≡ true
+pub sign-small : (z : ℤ) → leb (signWord z) 1 ≡ true
 unfolding signWord isMinus
 sign-small (pos n) = refl
 sign-small (negsuc n) = refl
@@ -182,6 +194,10 @@ module _ (ws : List ℕ) (ok : deltaOk ws ≡ true) where
   unfolding deltaOk
   ok-valid = and-right (leb (getD ws 16 0) 1 && not (minusZero (minusAt ws) (numberAt ws 12))) (valid (deltaAt ws)) ok
 
+  pub sign-back : signWord (signed (minusAt ws) (numberAt ws 12)) ≡ getD ws 16 0
+  unfolding minusAt
+  sign-back = word-signed (getD ws 16 0) (numberAt ws 12) ok-sign ok-zero
+
 module _ (ws : List ℕ) (g : AreWords ws) (e : length ws ≡ 17) where
   part-four : (k : ℕ) → k ≤ 13 → length (take 4 (drop k ws)) ≡ 4
   part-four k h = length-take-le 4 (drop k ws) (rw length-drop (omega arith))
@@ -209,9 +225,9 @@ module _ (ws : List ℕ) (g : AreWords ws) (e : length ws ≡ 17) where
       }
 
   pub deltaWords-deltaAt : deltaOk ws ≡ true → deltaWords (deltaAt ws) ≡ ws
-  unfolding deltaWords deltaAt signWord
+  unfolding deltaWords deltaAt
   deltaWords-deltaAt ok =
-      rw (part-digits 0 (omega arith), part-digits 4 (omega arith), part-digits 8 (omega arith), size-signed (minusAt ws) (numberAt ws 12), part-digits 12 (omega arith), minus-signed (minusAt ws) (numberAt ws 12) (ok-zero ws ok), sign-back ws (ok-sign ws ok))
+      rw (part-digits 0 (omega arith), part-digits 4 (omega arith), part-digits 8 (omega arith), size-signed (minusAt ws) (numberAt ws 12), part-digits 12 (omega arith), sign-back ws ok)
       (parts ws e)
 
 -- what is written of a valid delta is a delta in words

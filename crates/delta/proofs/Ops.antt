@@ -9,7 +9,8 @@ use native.Mathlib.Omega.{arith}
 use lib.Dec.{leb, ltb, eqb, leb·zero}
 use lib.IntN.{pos, negℤ, natAbs, _+ℤ_, +ℤ-comm}
 use lib.ListN.{getD}
-use borrow.Author.Tests.{lt-leb, le-leb, ltb-true, ltb-false, eqb-true, eqb-false, not-true, not-false}
+use mir.Val.{boolByte}
+use borrow.Author.Tests.{lt-leb, le-leb, leb-true, ltb-true, ltb-false, eqb-true, eqb-false, not-true, not-false}
 use Rattle.number.specs.declared.Number.{Number}
 use Rattle.number.specs.declared.Sum.{Sum}
 use Rattle.number.specs.declared.Sum.the-variants as Sums
@@ -25,11 +26,11 @@ use Rattle.delta.specs.declared.signed.Change.{Change}
 use Rattle.delta.specs.declared.signed.Change.the-variants.{To, Over}
 use Rattle.delta.specs.declared.signed.Reach.{Reach}
 use Rattle.delta.specs.declared.signed.Reach.the-variants.{Within, Beyond}
-use Rattle.delta.specs.Delta.{Delta, valid, applyTo, greater, joined, merge, Accumulated, nothing, merged, failed, gathered, accumulate, validSoFar, isMinus, signed, numberAt, minusZero, minusAt, deltaAt, deltaOk}
+use Rattle.delta.specs.Delta.{Delta, valid, applyTo, greater, joined, merge, Accumulated, nothing, merged, failed, gathered, accumulate, validSoFar, isNegative, signed, signWord, numberAt, minusZero, minusAt, deltaAt, deltaOk}
 use Rattle.delta.specs.Op.{AllHalves, exact, opOf, validOp, opAt, appliedOf, mergedOf, exactly, accumulatorOf, changeOf, reachOf}
 use Rattle.delta.proofs.Gain.{from-sides, gain-neg, loss-neg, gain-signed, loss-signed, above-is, below-is}
 use Rattle.delta.proofs.Merging.{and-left, and-right, valid-bounds, bounds-valid, apply-some, apply-deep, apply-high, after-is, merge-some, merge-limits, merge-high, merge-low, joined-bounds, joined-limit}
-use Rattle.delta.proofs.Format.{size-signed, minus-signed, signed-back, no-minus-zero, Small, valid-small, ok-zero}
+use Rattle.delta.proofs.Format.{size-signed, signed-back, minus-word, byte-sign, word-signed, no-minus-zero, sign-small, Small, valid-small, sign-back}
 use Rattle.delta.proofs.Sums.{IsChange, to-change, over-change, within-reach, beyond-reach}
 
 -- ---- there and back
@@ -38,60 +39,59 @@ pub exact-opOf : (d : Delta) → exact (opOf d) ≡ d
 unfolding exact opOf
 exact-opOf d = λ i. record { limit = valueOf-numberOf (d .limit) i; high = valueOf-numberOf (d .high) i; low = valueOf-numberOf (d .low) i; update = update i }
   where
-    update : signed (isMinus (d .update)) (valueOf (numberOf (natAbs (d .update)))) ≡ d .update
-    update = ap (signed (isMinus (d .update))) (valueOf-numberOf (natAbs (d .update))) ∙ signed-back (d .update)
+    update : signed (isNegative (signWord (d .update))) (valueOf (numberOf (natAbs (d .update)))) ≡ d .update
+    update = ap₂ signed (minus-word (d .update)) (valueOf-numberOf (natAbs (d .update))) ∙ signed-back (d .update)
 
-validOp-zero : (o : DeltaOp) → validOp o ≡ true → not (minusZero (o .minus) (valueOf (o .update))) ≡ true
+validOp-sign : (o : DeltaOp) → validOp o ≡ true → o .sign ≤ 1
 unfolding validOp
-validOp-zero o v = and-left _ _ v
+validOp-sign o v = leb-true _ _ (and-left (leb (o .sign) 1) _ (and-left _ _ v))
+
+validOp-zero : (o : DeltaOp) → validOp o ≡ true → not (minusZero (isNegative (o .sign)) (valueOf (o .update))) ≡ true
+unfolding validOp
+validOp-zero o v = and-right (leb (o .sign) 1) _ (and-left _ (valid (exact o)) v)
 
 pub validOp-valid : (o : DeltaOp) → validOp o ≡ true → valid (exact o) ≡ true
 unfolding validOp
-validOp-valid o v = and-right (not (minusZero (o .minus) (valueOf (o .update)))) _ v
+validOp-valid o v = and-right (leb (o .sign) 1 && not (minusZero (isNegative (o .sign)) (valueOf (o .update)))) _ v
 
 pub opOf-exact : (o : DeltaOp) → AllHalves o → validOp o ≡ true → opOf (exact o) ≡ o
 unfolding exact opOf
-opOf-exact o g v = λ i. record { limit = numberOf-valueOf (o .limit) (g .limit) i; high = numberOf-valueOf (o .high) (g .high) i; low = numberOf-valueOf (o .low) (g .low) i; update = update i; minus = minus i }
+opOf-exact o g v = λ i. record { limit = numberOf-valueOf (o .limit) (g .limit) i; high = numberOf-valueOf (o .high) (g .high) i; low = numberOf-valueOf (o .low) (g .low) i; update = update i; sign = sign i }
   where
-    update : numberOf (natAbs (signed (o .minus) (valueOf (o .update)))) ≡ o .update
-    update = ap numberOf (size-signed (o .minus) (valueOf (o .update))) ∙ numberOf-valueOf (o .update) (g .update)
+    update : numberOf (natAbs (signed (isNegative (o .sign)) (valueOf (o .update)))) ≡ o .update
+    update = ap numberOf (size-signed (isNegative (o .sign)) (valueOf (o .update))) ∙ numberOf-valueOf (o .update) (g .update)
 
-    minus : isMinus (signed (o .minus) (valueOf (o .update))) ≡ o .minus
-    minus = minus-signed (o .minus) (valueOf (o .update)) (validOp-zero o v)
+    sign : signWord (signed (isNegative (o .sign)) (valueOf (o .update))) ≡ o .sign
+    sign = word-signed (o .sign) (valueOf (o .update)) (validOp-sign o v) (validOp-zero o v)
 
 pub exact-opAt : (ws : List ℕ) → exact (opAt ws) ≡ deltaAt ws
-unfolding exact opAt deltaAt
+unfolding exact opAt deltaAt minusAt
 exact-opAt ws = λ i. record { limit = valueOf-numberOf (numberAt ws 0) i; high = valueOf-numberOf (numberAt ws 4) i; low = valueOf-numberOf (numberAt ws 8) i; update = signed (minusAt ws) (valueOf-numberOf (numberAt ws 12) i) }
 
 pub opAt-opOf : (ws : List ℕ) → deltaOk ws ≡ true → opAt ws ≡ opOf (deltaAt ws)
 unfolding opAt opOf deltaAt
-opAt-opOf ws ok = λ i. record { limit = numberOf (numberAt ws 0); high = numberOf (numberAt ws 4); low = numberOf (numberAt ws 8); update = numberOf (size i); minus = minus i }
+opAt-opOf ws ok = λ i. record { limit = numberOf (numberAt ws 0); high = numberOf (numberAt ws 4); low = numberOf (numberAt ws 8); update = numberOf (size i); sign = sign i }
   where
     size : numberAt ws 12 ≡ natAbs (signed (minusAt ws) (numberAt ws 12))
     size = sym (size-signed (minusAt ws) (numberAt ws 12))
 
-    minus : minusAt ws ≡ isMinus (signed (minusAt ws) (numberAt ws 12))
-    minus = sym (minus-signed (minusAt ws) (numberAt ws 12) (ok-zero ws ok))
+    sign : getD ws 16 0 ≡ signWord (signed (minusAt ws) (numberAt ws 12))
+    sign = sym (sign-back ws ok)
 
 pub validOp-opOf : (d : Delta) → valid d ≡ true → validOp (opOf d) ≡ true
 unfolding validOp opOf
-validOp-opOf d v = rw (exact-opOf d, v, valueOf-numberOf (natAbs (d .update)), no-minus-zero (d .update))
+validOp-opOf d v = rw (exact-opOf d, v, sign-small (d .update), minus-word (d .update), valueOf-numberOf (natAbs (d .update)), no-minus-zero (d .update))
 
 pub halves-opOf : (d : Delta) → Small d → AllHalves (opOf d)
 unfolding opOf
 halves-opOf d s =
     record { limit = halves-numberOf _ (s .limit); high = halves-numberOf _ (s .high); low = halves-numberOf _ (s .low); update = halves-numberOf _ (s .update) }
 
--- what is read is valid exactly if the words are a delta, where the sign is 0 or 1
-pub validOp-opAt : (ws : List ℕ) → getD ws 16 0 ≤ 1 → validOp (opAt ws) ≡ deltaOk ws
-unfolding validOp deltaOk opAt
-validOp-opAt ws h =
-    ap₂ (λ (x : ℕ) (d : Delta). not (minusZero (minusAt ws) x) && valid d) (valueOf-numberOf (numberAt ws 12)) (exact-opAt ws)
-    ∙ rw (le-leb _ _ h)
-
-pub sign-bad : (ws : List ℕ) → 1 < getD ws 16 0 → false ≡ deltaOk ws
-unfolding deltaOk
-sign-bad ws h = rw (lt-leb _ _ h)
+-- what is read is valid exactly if the words are a delta
+pub validOp-opAt : (ws : List ℕ) → validOp (opAt ws) ≡ deltaOk ws
+unfolding validOp deltaOk opAt minusAt
+validOp-opAt ws =
+    ap₂ (λ (x : ℕ) (d : Delta). leb (getD ws 16 0) 1 && not (minusZero (isNegative (getD ws 16 0)) x) && valid d) (valueOf-numberOf (numberAt ws 12)) (exact-opAt ws)
 
 -- ---- what a caller learns of an answer
 
@@ -124,32 +124,32 @@ exactly-accumulatorOf failed = refl
 -- ---- is_valid
 
 -- the tests of `is_valid` on bare numbers
-unfoldable check : Bool → ℕ → ℕ → ℕ → ℕ → Bool
-check minus limit high low size =
-    not (minus && eqb size 0) && (leb high limit && leb low limit && leb (cond minus size 0) low && leb (cond minus 0 size) high)
+unfoldable check : (fits minus : Bool) → ℕ → ℕ → ℕ → ℕ → Bool
+check fits minus limit high low size =
+    fits && not (minus && eqb size 0) && (leb high limit && leb low limit && leb (cond minus size 0) low && leb (cond minus 0 size) high)
 
-validOp-is : (o : DeltaOp) → validOp o ≡ check (o .minus) (valueOf (o .limit)) (valueOf (o .high)) (valueOf (o .low)) (valueOf (o .update))
+validOp-is : (o : DeltaOp) → validOp o ≡ check (leb (o .sign) 1) (isNegative (o .sign)) (valueOf (o .limit)) (valueOf (o .high)) (valueOf (o .low)) (valueOf (o .update))
 unfolding validOp valid exact check minusZero
 validOp-is o =
-    rw (above-is (valueOf (o .low)) (signed (o .minus) (valueOf (o .update))), below-is (valueOf (o .high)) (signed (o .minus) (valueOf (o .update))), loss-signed (o .minus) (valueOf (o .update)), gain-signed (o .minus) (valueOf (o .update)))
+    rw (above-is (valueOf (o .low)) (signed (isNegative (o .sign)) (valueOf (o .update))), below-is (valueOf (o .high)) (signed (isNegative (o .sign)) (valueOf (o .update))), loss-signed (isNegative (o .sign)) (valueOf (o .update)), gain-signed (isNegative (o .sign)) (valueOf (o .update)))
 
 false-after : (a : Bool) → (a && false) ≡ false
 false-after true = refl
 false-after false = refl
 
-check-high : (m : Bool) (limit high low size : ℕ) → limit < high → check m limit high low size ≡ false
+check-high : (f m : Bool) (limit high low size : ℕ) → limit < high → check f m limit high low size ≡ false
 unfolding check
-check-high m limit high low size h = rw (lt-leb _ _ h) (false-after (not (m && eqb size 0)))
+check-high f m limit high low size h = rw (lt-leb _ _ h) (false-after (f && not (m && eqb size 0)))
 
-check-low : (m : Bool) (limit high low size : ℕ) → limit < low → check m limit high low size ≡ false
+check-low : (f m : Bool) (limit high low size : ℕ) → limit < low → check f m limit high low size ≡ false
 unfolding check
-check-low m limit high low size h = rw (lt-leb low limit h, false-after (leb high limit)) (false-after (not (m && eqb size 0)))
+check-low f m limit high low size h = rw (lt-leb low limit h, false-after (leb high limit)) (false-after (f && not (m && eqb size 0)))
 
-check-zero : (limit high low size : ℕ) → eqb size 0 ≡ true → check true limit high low size ≡ false
+check-zero : (f : Bool) (limit high low size : ℕ) → eqb size 0 ≡ true → check f true limit high low size ≡ false
 unfolding check
-check-zero limit high low size z = rw z
+check-zero f limit high low size z = rw (z, false-after f)
 
-check-minus : (limit high low size : ℕ) → high ≤ limit → low ≤ limit → eqb size 0 ≡ false → check true limit high low size ≡ leb size low
+check-minus : (limit high low size : ℕ) → high ≤ limit → low ≤ limit → eqb size 0 ≡ false → check true true limit high low size ≡ leb size low
 unfolding check
 check-minus limit high low size p q z = rw (z, le-leb _ _ p, le-leb _ _ q, leb·zero high) (and-true (leb size low))
   where
@@ -157,26 +157,30 @@ check-minus limit high low size p q z = rw (z, le-leb _ _ p, le-leb _ _ q, leb·
     and-true true = refl
     and-true false = refl
 
-check-plus : (limit high low size : ℕ) → high ≤ limit → low ≤ limit → check false limit high low size ≡ leb size high
+check-plus : (limit high low size : ℕ) → high ≤ limit → low ≤ limit → check true false limit high low size ≡ leb size high
 unfolding check
 check-plus limit high low size p q = rw (le-leb _ _ p, le-leb _ _ q, leb·zero low)
 
 module _ (o : DeltaOp) where
+  pub sign-bad : 1 < o .sign → false ≡ validOp o
+  unfolding validOp
+  sign-bad h = rw (lt-leb (o .sign) 1 h)
+
   pub high-bad : ltb (valueOf (o .limit)) (valueOf (o .high)) ≡ true → false ≡ validOp o
-  high-bad t = sym (validOp-is o ∙ check-high _ _ _ _ _ (ltb-true _ _ t))
+  high-bad t = sym (validOp-is o ∙ check-high _ _ _ _ _ _ (ltb-true _ _ t))
 
   pub low-bad : ltb (valueOf (o .limit)) (valueOf (o .low)) ≡ true → false ≡ validOp o
-  low-bad t = sym (validOp-is o ∙ check-low _ _ _ _ _ (ltb-true _ _ t))
+  low-bad t = sym (validOp-is o ∙ check-low _ _ _ _ _ _ (ltb-true _ _ t))
 
-  pub zero-bad : o .minus ≡ true → eqb (valueOf (o .update)) 0 ≡ true → false ≡ validOp o
-  zero-bad m z = sym (validOp-is o ∙ rw m (check-zero _ _ _ _ z))
+  pub zero-bad : isNegative (o .sign) ≡ true → eqb (valueOf (o .update)) 0 ≡ true → false ≡ validOp o
+  zero-bad m z = sym (validOp-is o ∙ rw m (check-zero _ _ _ _ _ z))
 
-  module _ (t : Bool) (p : ltb (valueOf (o .limit)) (valueOf (o .high)) ≡ false) (q : ltb (valueOf (o .limit)) (valueOf (o .low)) ≡ false) where
-    pub minus-good : o .minus ≡ true → eqb (valueOf (o .update)) 0 ≡ false → t ≡ leb (valueOf (o .update)) (valueOf (o .low)) → t ≡ validOp o
-    minus-good m z e = e ∙ sym (validOp-is o ∙ rw m (check-minus _ _ _ _ (ltb-false _ _ p) (ltb-false _ _ q) z))
+  module _ (t : Bool) (s : o .sign ≤ 1) (p : ltb (valueOf (o .limit)) (valueOf (o .high)) ≡ false) (q : ltb (valueOf (o .limit)) (valueOf (o .low)) ≡ false) where
+    pub minus-good : isNegative (o .sign) ≡ true → eqb (valueOf (o .update)) 0 ≡ false → t ≡ leb (valueOf (o .update)) (valueOf (o .low)) → t ≡ validOp o
+    minus-good m z e = e ∙ sym (validOp-is o ∙ rw (le-leb _ _ s, m) (check-minus _ _ _ _ (ltb-false _ _ p) (ltb-false _ _ q) z))
 
-    pub plus-good : o .minus ≡ false → t ≡ leb (valueOf (o .update)) (valueOf (o .high)) → t ≡ validOp o
-    plus-good m e = e ∙ sym (validOp-is o ∙ rw m (check-plus _ _ _ _ (ltb-false _ _ p) (ltb-false _ _ q)))
+    pub plus-good : isNegative (o .sign) ≡ false → t ≡ leb (valueOf (o .update)) (valueOf (o .high)) → t ≡ validOp o
+    plus-good m e = e ∙ sym (validOp-is o ∙ rw (le-leb _ _ s, m) (check-plus _ _ _ _ (ltb-false _ _ p) (ltb-false _ _ q)))
 
 -- ---- apply_to
 
@@ -207,10 +211,10 @@ module _ (o : DeltaOp) (v : Number) where
           let i = total-sum v (o .high) top (sym e ∙ t) in
           apply-some (exact o) (valueOf v) (ltb-false (valueOf v) (valueOf (o .low)) p) (omega (arith, i .value, ltb-false (valueOf (o .limit)) (valueOf top) q))
 
-      pub applied-value : (r : Change) (n : Number) (m : Bool) → r ≡ changeOf (signed false (valueOf v) +ℤ signed (o .minus) (valueOf (o .update))) → r ≡ To n m → Value n ≡ appliedOf (applyTo (exact o) (valueOf v))
+      pub applied-value : (r : Change) (n : Number) (m : Bool) → r ≡ changeOf (signed false (valueOf v) +ℤ signed (isNegative (o .sign)) (valueOf (o .update))) → r ≡ To n m → Value n ≡ appliedOf (applyTo (exact o) (valueOf v))
       unfolding appliedOf exact signed
       applied-value r n m f k =
-          let i = to-change (pos (valueOf v) +ℤ signed (o .minus) (valueOf (o .update))) n m (sym f ∙ k) in
+          let i = to-change (pos (valueOf v) +ℤ signed (isNegative (o .sign)) (valueOf (o .update))) n m (sym f ∙ k) in
           rw applies (ap Value (i .size))
 
       small-end : valid (exact o) ≡ true → Halves (o .limit) → natAbs (pos (valueOf v) +ℤ exact o .update) < range
@@ -221,9 +225,9 @@ module _ (o : DeltaOp) (v : Number) where
           rw (after-is (exact o) (valueOf v) b (ltb-false (valueOf v) (valueOf (o .low)) p))
           (omega (arith, b .tall, i .value, ltb-false (valueOf (o .limit)) (valueOf top) q, value-below (o .limit) g))
 
-      pub applied-never : {X : Type 0} (r : Change) → valid (exact o) ≡ true → Halves (o .limit) → r ≡ changeOf (signed false (valueOf v) +ℤ signed (o .minus) (valueOf (o .update))) → r ≡ Over → X
+      pub applied-never : {X : Type 0} (r : Change) → valid (exact o) ≡ true → Halves (o .limit) → r ≡ changeOf (signed false (valueOf v) +ℤ signed (isNegative (o .sign)) (valueOf (o .update))) → r ≡ Over → X
       unfolding exact signed
-      applied-never r w g f k = over-change (pos (valueOf v) +ℤ signed (o .minus) (valueOf (o .update))) (sym f ∙ k) (small-end w g)
+      applied-never r w g f k = over-change (pos (valueOf v) +ℤ signed (isNegative (o .sign)) (valueOf (o .update))) (sym f ∙ k) (small-end w g)
 
 -- ---- merge_with_previous_delta
 
@@ -252,13 +256,13 @@ at-most-by : {a b c d : ℕ} → a ≡ c → b ≡ d → c ≤ d → a ≤ b
 at-most-by p q h = omega arith
 
 module _ (n p : DeltaOp) where
-  high-is : joined (exact n) (exact p) .high ≡ greater (valueOf (p .high)) (pos (valueOf (n .high)) +ℤ signed (p .minus) (valueOf (p .update)))
+  high-is : joined (exact n) (exact p) .high ≡ greater (valueOf (p .high)) (pos (valueOf (n .high)) +ℤ signed (isNegative (p .sign)) (valueOf (p .update)))
   unfolding joined exact
-  high-is = ap (greater (valueOf (p .high))) (+ℤ-comm (signed (p .minus) (valueOf (p .update))) (pos (valueOf (n .high))))
+  high-is = ap (greater (valueOf (p .high))) (+ℤ-comm (signed (isNegative (p .sign)) (valueOf (p .update))) (pos (valueOf (n .high))))
 
-  low-is : joined (exact n) (exact p) .low ≡ greater (valueOf (p .low)) (pos (valueOf (n .low)) +ℤ signed (not (p .minus)) (valueOf (p .update)))
+  low-is : joined (exact n) (exact p) .low ≡ greater (valueOf (p .low)) (pos (valueOf (n .low)) +ℤ signed (not (isNegative (p .sign))) (valueOf (p .update)))
   unfolding joined exact
-  low-is = rw (flipped (p .minus) (valueOf (p .update)))
+  low-is = rw (flipped (isNegative (p .sign)) (valueOf (p .update)))
 
   apart : merge (exact n) (exact p) ≡ none → Apart ≡ mergedOf (merge (exact n) (exact p))
   unfolding mergedOf
@@ -268,13 +272,13 @@ module _ (n p : DeltaOp) where
   unfolding exact
   merged-limits t e k = apart (merge-limits (exact n) (exact p) (eqb-false _ _ (sym e ∙ not-true t k)))
 
-  pub merged-high : (r : Reach) → r ≡ reachOf (valueOf (n .limit)) (greater (valueOf (p .high)) (pos (valueOf (n .high)) +ℤ signed (p .minus) (valueOf (p .update)))) → r ≡ Beyond → Apart ≡ mergedOf (merge (exact n) (exact p))
+  pub merged-high : (r : Reach) → r ≡ reachOf (valueOf (n .limit)) (greater (valueOf (p .high)) (pos (valueOf (n .high)) +ℤ signed (isNegative (p .sign)) (valueOf (p .update)))) → r ≡ Beyond → Apart ≡ mergedOf (merge (exact n) (exact p))
   merged-high r e k = apart (merge-high (exact n) (exact p) (less-by (exact-limit n) high-is (beyond-reach _ _ (sym e ∙ k))))
 
-  pub merged-low : (r : Reach) → r ≡ reachOf (valueOf (n .limit)) (greater (valueOf (p .low)) (pos (valueOf (n .low)) +ℤ signed (not (p .minus)) (valueOf (p .update)))) → r ≡ Beyond → Apart ≡ mergedOf (merge (exact n) (exact p))
+  pub merged-low : (r : Reach) → r ≡ reachOf (valueOf (n .limit)) (greater (valueOf (p .low)) (pos (valueOf (n .low)) +ℤ signed (not (isNegative (p .sign))) (valueOf (p .update)))) → r ≡ Beyond → Apart ≡ mergedOf (merge (exact n) (exact p))
   merged-low r e k = apart (merge-low (exact n) (exact p) (less-by (exact-limit n) low-is (beyond-reach _ _ (sym e ∙ k))))
 
-  module _ (t : Bool) (r₁ r₂ : Reach) (top bottom : Number) (et : t ≡ eqb (valueOf (n .limit)) (valueOf (p .limit))) (kt : not t ≡ false) (e₁ : r₁ ≡ reachOf (valueOf (n .limit)) (greater (valueOf (p .high)) (pos (valueOf (n .high)) +ℤ signed (p .minus) (valueOf (p .update))))) (k₁ : r₁ ≡ Within top) (e₂ : r₂ ≡ reachOf (valueOf (n .limit)) (greater (valueOf (p .low)) (pos (valueOf (n .low)) +ℤ signed (not (p .minus)) (valueOf (p .update))))) (k₂ : r₂ ≡ Within bottom) (c : Change) (ec : c ≡ changeOf (signed (p .minus) (valueOf (p .update)) +ℤ signed (n .minus) (valueOf (n .update)))) where
+  module _ (t : Bool) (r₁ r₂ : Reach) (top bottom : Number) (et : t ≡ eqb (valueOf (n .limit)) (valueOf (p .limit))) (kt : not t ≡ false) (e₁ : r₁ ≡ reachOf (valueOf (n .limit)) (greater (valueOf (p .high)) (pos (valueOf (n .high)) +ℤ signed (isNegative (p .sign)) (valueOf (p .update))))) (k₁ : r₁ ≡ Within top) (e₂ : r₂ ≡ reachOf (valueOf (n .limit)) (greater (valueOf (p .low)) (pos (valueOf (n .low)) +ℤ signed (not (isNegative (p .sign))) (valueOf (p .update))))) (k₂ : r₂ ≡ Within bottom) (c : Change) (ec : c ≡ changeOf (signed (isNegative (p .sign)) (valueOf (p .update)) +ℤ signed (isNegative (n .sign)) (valueOf (n .update)))) where
     high-fits : joined (exact n) (exact p) .high ≤ exact n .limit
     high-fits = at-most-by high-is (exact-limit n) (within-reach _ _ top (sym e₁ ∙ k₁) .fits)
 
@@ -298,13 +302,16 @@ module _ (n p : DeltaOp) where
         over-change (joined (exact n) (exact p) .update) (sym update-is ∙ k)
         (valid-small (joined (exact n) (exact p)) (bounds-valid (joined (exact n) (exact p)) b) (rw (joined-limit (exact n) (exact p), exact-limit n) (value-below (n .limit) g)) .update)
 
-    pub merged-joined : (u : Number) (m : Bool) → Halves (n .limit) → c ≡ To u m → Joined (record { limit = n .limit; high = top; low = bottom; update = u; minus = m }) ≡ mergedOf (merge (exact n) (exact p))
+    pub merged-joined : (u : Number) (m : Bool) → Halves (n .limit) → c ≡ To u m → Joined (record { limit = n .limit; high = top; low = bottom; update = u; sign = boolByte m }) ≡ mergedOf (merge (exact n) (exact p))
     unfolding mergedOf opOf
     merged-joined u m g k =
-        rw merges (ap Joined (λ i. record { limit = limit i; high = high i; low = low i; update = change .size i; minus = change .minus i }))
+        rw merges (ap Joined (λ i. record { limit = limit i; high = high i; low = low i; update = change .size i; sign = sign i }))
       where
         change : IsChange (joined (exact n) (exact p) .update) u m
         change = to-change _ u m (sym update-is ∙ k)
+
+        sign : boolByte m ≡ signWord (joined (exact n) (exact p) .update)
+        sign = ap boolByte (change .minus) ∙ byte-sign (joined (exact n) (exact p) .update)
 
         limit : n .limit ≡ numberOf (joined (exact n) (exact p) .limit)
         limit = sym (ap numberOf (joined-limit (exact n) (exact p) ∙ exact-limit n) ∙ numberOf-valueOf (n .limit) g)

@@ -1,9 +1,9 @@
 -- What reading and writing a delta at a place of a slice finds.
 -- Assumes nothing.
 use mathlib.Core.Path.{_≡_, sym, ap, _∙_}
-use mathlib.Core.Bool.{Bool, true, false, not, cond, _&&_}
+use mathlib.Core.Bool.{Bool, true, false, not, cond}
 use mathlib.Core.List.{List, [], _∷_, _++_}
-use Prim.Native.Nat.{ℕ, zero, suc, _+_, _≤_, _<_}
+use Prim.Native.Nat.{ℕ, zero, suc, _+_, _≤_}
 use native.Mathlib.Nat.{zero-add, suc-add}
 use native.Mathlib.Omega.{arith}
 use lib.Dec.{eqb}
@@ -16,10 +16,10 @@ use Rattle.number.specs.Words.{digits, valueOfWords}
 use Rattle.number.proofs.Digits.{length-digits}
 use Rattle.number.proofs.Stores.{sets-then}
 use Rattle.delta.specs.declared.DeltaOp.{DeltaOp}
-use Rattle.delta.specs.Delta.{isMinus, signed, signWord, numberAt, minusZero, minusAt, deltaOk, deltaWords}
+use Rattle.delta.specs.Delta.{isMinus, isNegative, signed, signWord, numberAt, minusZero, deltaOk, deltaWords}
 use Rattle.delta.specs.Op.{exact, opAt, validOp}
 use Rattle.delta.proofs.Format.{size-signed, minus-signed, not-zero, plus-fine, zero-plus}
-use Rattle.delta.proofs.Ops.{validOp-opAt, sign-bad}
+use Rattle.delta.proofs.Ops.{validOp-opAt}
 
 -- ---- reading
 
@@ -35,10 +35,10 @@ part-of s at k n h = ap (take 4) (drop-take k n (drop at s)) ∙ take-take 4 n (
 pub sign-of-part : (s : List ℕ) (at : ℕ) → getD (take 17 (drop at s)) 16 0 ≡ getD s (at + 16) 0
 sign-of-part s at = getD-take 17 (drop at s) 16 0 (omega arith) ∙ getD-drop at s 16 0
 
-pub op-is : (s : List ℕ) (at : ℕ) (limit high low update : Number) → limit ≡ numberOf (valueOfWords (take 4 (drop at s))) → high ≡ numberOf (valueOfWords (take 4 (drop (at + 4) s))) → low ≡ numberOf (valueOfWords (take 4 (drop (at + 8) s))) → update ≡ numberOf (valueOfWords (take 4 (drop (at + 12) s))) → _≡_ {A = DeltaOp} (record { limit = limit; high = high; low = low; update = update; minus = not (eqb (getD s (at + 16) 0) 0) }) (opAt (take 17 (drop at s)))
-unfolding opAt numberAt minusAt
+pub op-is : (s : List ℕ) (at : ℕ) (limit high low update : Number) → limit ≡ numberOf (valueOfWords (take 4 (drop at s))) → high ≡ numberOf (valueOfWords (take 4 (drop (at + 4) s))) → low ≡ numberOf (valueOfWords (take 4 (drop (at + 8) s))) → update ≡ numberOf (valueOfWords (take 4 (drop (at + 12) s))) → _≡_ {A = DeltaOp} (record { limit = limit; high = high; low = low; update = update; sign = getD s (at + 16) 0 }) (opAt (take 17 (drop at s)))
+unfolding opAt numberAt
 op-is s at limit high low update e₀ e₁ e₂ e₃ =
-    λ i. record { limit = limit-is i; high = high-is i; low = low-is i; update = update-is i; minus = not (eqb (sign-is i) 0) }
+    λ i. record { limit = limit-is i; high = high-is i; low = low-is i; update = update-is i; sign = sign-is i }
   where
     sign-is : getD s (at + 16) 0 ≡ getD (take 17 (drop at s)) 16 0
     sign-is = sym (sign-of-part s at)
@@ -58,27 +58,24 @@ op-is s at limit high low update e₀ e₁ e₂ e₃ =
 -- ---- checking
 
 module _ (s : List ℕ) (at : ℕ) where
-  pub checked-sign : 1 < getD s (at + 16) 0 → false ≡ deltaOk (take 17 (drop at s))
-  checked-sign h = sign-bad (take 17 (drop at s)) (rw (sign-of-part s at) h)
-
-  pub checked-op : (o : DeltaOp) (t : Bool) → getD s (at + 16) 0 ≤ 1 → o ≡ opAt (take 17 (drop at s)) → t ≡ validOp o → t ≡ deltaOk (take 17 (drop at s))
-  checked-op o t h e f = f ∙ ap validOp e ∙ validOp-opAt (take 17 (drop at s)) (rw (sign-of-part s at) h)
+  pub checked-op : (o : DeltaOp) (t : Bool) → o ≡ opAt (take 17 (drop at s)) → t ≡ validOp o → t ≡ deltaOk (take 17 (drop at s))
+  checked-op o t e f = f ∙ ap validOp e ∙ validOp-opAt (take 17 (drop at s))
 
 -- ---- writing
 
 module _ (o : DeltaOp) where
-  sign-plain : not (minusZero (o .minus) (valueOf (o .update))) ≡ true → cond (o .minus) 1 0 ≡ signWord (exact o .update)
+  sign-plain : not (minusZero (isNegative (o .sign)) (valueOf (o .update))) ≡ true → cond (isNegative (o .sign)) 1 0 ≡ signWord (exact o .update)
   unfolding signWord exact
-  sign-plain h = rw (minus-signed (o .minus) (valueOf (o .update)) h)
+  sign-plain h = rw (minus-signed (isNegative (o .sign)) (valueOf (o .update)) h)
 
   pub sign-zero : eqb (valueOf (o .update)) 0 ≡ true → 0 ≡ signWord (exact o .update)
   unfolding signWord exact
-  sign-zero z = sym (ap (λ (x : ℕ). cond (isMinus (signed (o .minus) x)) 1 0) (eqb-true (valueOf (o .update)) 0 z) ∙ rw (zero-plus (o .minus)))
+  sign-zero z = sym (ap (λ (x : ℕ). cond (isMinus (signed (isNegative (o .sign)) x)) 1 0) (eqb-true (valueOf (o .update)) 0 z) ∙ rw (zero-plus (isNegative (o .sign))))
 
-  pub sign-minus : eqb (valueOf (o .update)) 0 ≡ false → o .minus ≡ true → 1 ≡ signWord (exact o .update)
-  sign-minus z m = sym (ap (λ (t : Bool). cond t 1 0) m) ∙ sign-plain (not-zero (o .minus) (valueOf (o .update)) z)
+  pub sign-minus : eqb (valueOf (o .update)) 0 ≡ false → isNegative (o .sign) ≡ true → 1 ≡ signWord (exact o .update)
+  sign-minus z m = sym (ap (λ (t : Bool). cond t 1 0) m) ∙ sign-plain (not-zero (isNegative (o .sign)) (valueOf (o .update)) z)
 
-  pub sign-plus : o .minus ≡ false → 0 ≡ signWord (exact o .update)
+  pub sign-plus : isNegative (o .sign) ≡ false → 0 ≡ signWord (exact o .update)
   sign-plus m = sym (ap (λ (t : Bool). cond t 1 0) m) ∙ sign-plain (rw m (plus-fine (valueOf (o .update))))
 
 -- five runs of words, one after another
@@ -105,4 +102,4 @@ module _ (s s₁ s₂ s₃ s₄ : List ℕ) (at sign : ℕ) (o : DeltaOp) where
       runs s s₁ s₂ s₃ s₄ (digits 4 (valueOf (o .limit))) (digits 4 (valueOf (o .high))) (digits 4 (valueOf (o .low))) (digits 4 (valueOf (o .update))) at sign
       (length-digits 4 (valueOf (o .limit))) (length-digits 4 (valueOf (o .high))) (length-digits 4 (valueOf (o .low))) (length-digits 4 (valueOf (o .update)))
       e₁ e₂ e₃ e₄
-      ∙ rw (size-signed (o .minus) (valueOf (o .update)), e₅)
+      ∙ rw (size-signed (isNegative (o .sign)) (valueOf (o .update)), e₅)

@@ -103,9 +103,13 @@ numberAt ws i = valueOfWords (take 4 (drop i ws))
 unfoldable pub minusZero : Bool → ℕ → Bool
 minusZero minus n = minus && eqb n 0
 
--- the sign of the words: 0 is plus, and whatever else stands there is read as minus
+-- what a sign says: 0 is plus, and whatever else stands there is read as minus
+abbrev pub isNegative : ℕ → Bool
+isNegative sign = not (eqb sign 0)
+
+-- the sign of the words
 unfoldable pub minusAt : List ℕ → Bool
-minusAt ws = not (eqb (getD ws 16 0) 0)
+minusAt ws = isNegative (getD ws 16 0)
 
 -- the delta that 17 words hold, whatever they are
 unfoldable pub deltaAt : List ℕ → Delta

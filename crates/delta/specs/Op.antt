@@ -6,8 +6,9 @@ use mathlib.Core.Option.{Option, none, some}
 use Prim.Native.Nat.{ℕ}
 use lib.Dec.{leb, ltb}
 use lib.IntN.{ℤ, natAbs}
+use lib.ListN.{getD}
 use Rattle.number.specs.Number.{Halves, range, valueOf, numberOf}
-use Rattle.delta.specs.Delta.{Delta, valid, merge, Accumulated, nothing, merged, failed, accumulate, accumulateAll, isMinus, signed, numberAt, minusZero, minusAt}
+use Rattle.delta.specs.Delta.{Delta, valid, merge, Accumulated, nothing, merged, failed, accumulate, accumulateAll, isMinus, isNegative, signed, signWord, numberAt, minusZero}
 use Rattle.delta.specs.declared.signed.Change.{Change}
 use Rattle.delta.specs.declared.signed.Change.the-variants.{To, Over}
 use Rattle.delta.specs.declared.signed.Reach.{Reach}
@@ -35,7 +36,7 @@ exact o =
       limit = valueOf (o .limit);
       high = valueOf (o .high);
       low = valueOf (o .low);
-      update = signed (o .minus) (valueOf (o .update));
+      update = signed (isNegative (o .sign)) (valueOf (o .update));
     }
 
 -- the struct of a delta below `range`
@@ -46,12 +47,12 @@ opOf d =
       high = numberOf (d .high);
       low = numberOf (d .low);
       update = numberOf (natAbs (d .update));
-      minus = isMinus (d .update);
+      sign = signWord (d .update);
     }
 
--- the struct holds a delta: "minus zero is bad", and the delta is valid
+-- the struct holds a delta, as `deltaOk` says it of words: the sign is 0 or 1, "minus zero is bad", and the delta is valid
 unfoldable pub validOp : DeltaOp → Bool
-validOp o = not (minusZero (o .minus) (valueOf (o .update))) && valid (exact o)
+validOp o = leb (o .sign) 1 && not (minusZero (isNegative (o .sign)) (valueOf (o .update))) && valid (exact o)
 
 -- the struct that 17 words hold, whatever they are
 unfoldable pub opAt : List ℕ → DeltaOp
@@ -61,7 +62,7 @@ opAt ws =
       high = numberOf (numberAt ws 4);
       low = numberOf (numberAt ws 8);
       update = numberOf (numberAt ws 12);
-      minus = minusAt ws;
+      sign = getD ws 16 0;
     }
 
 -- ---- the code's answers

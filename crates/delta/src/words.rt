@@ -7,7 +7,7 @@ ghost use lib.Seq.{sets};
 ghost use Rattle.delta.specs.Delta.{deltaOk, deltaWords, signWord};
 ghost use Rattle.delta.specs.Op.{exact, opAt};
 
-// What the words at `at` hold; a sign that is not 0 is minus.
+// What the words at `at` hold, the sign as it stands.
 pub fn read(s: &[u32], at: usize) -> DeltaOp
     requires fits { ⌜ at + 17 ≤ length (now s) ⌝ }
     ensures value { λ r. ⌜ r ≡ opAt (take 17 (drop at (now (s .entry)))) ⌝ }
@@ -16,13 +16,13 @@ pub fn read(s: &[u32], at: usize) -> DeltaOp
     let high = number::words::read(s, at + 4);
     let low = number::words::read(s, at + 8);
     let update = number::words::read(s, at + 12);
-    let sign = s[at + 16];
+    let sign = s[at + 16] as u64;
     DeltaOp {
         limit,
         high,
         low,
         update,
-        minus: sign != 0,
+        sign,
     }
 }
 
@@ -31,9 +31,6 @@ pub fn is_delta(s: &[u32], at: usize) -> bool
     requires fits { ⌜ at + 17 ≤ length (now s) ⌝ }
     ensures checked { λ r. ⌜ r ≡ deltaOk (take 17 (drop at (now (s .entry)))) ⌝ }
 {
-    if 1 < s[at + 16] {
-        return false;
-    }
     let delta = read(s, at);
     delta.is_valid()
 }
@@ -46,7 +43,7 @@ fn sign_of(delta: DeltaOp) -> u32
     if update.is_zero() {
         return 0;
     }
-    if delta.minus {
+    if delta.sign != 0 {
         return 1;
     }
     0

@@ -18,7 +18,6 @@ use Rattle.delta.specs.Delta.{Accumulated, accumulate, validSoFar, deltaAt, del
 use Rattle.delta.specs.Op.{exact, exactly, accumulatorOf, opAt, validOp}
 use Rattle.delta.specs.declared.DeltaOp.{DeltaOp}
 use Rattle.delta.specs.declared.Accumulator.{Accumulator}
-use Rattle.delta.proofs.Format.{ok-sign}
 use Rattle.delta.proofs.Ops.{exact-opAt, validOp-opAt, validOp-valid, exactly-accumulatorOf}
 use Rattle.delta.proofs.Merging.{accumulate-valid}
 use Rattle.types.specs.Index.{shiftedOf, wordOf}
@@ -269,4 +268,4 @@ module _ (s : List ℕ) (v : dataValid s ≡ true) (j : ℕ) (h : j < length (en
     pub slot-delta : (op : DeltaOp) → op ≡ opAt (take 17 (drop (slotWidth * j + 6) s)) → validOp op ≡ true
     slot-delta op r =
         ap validOp r
-        ∙ validOp-opAt (take 17 (drop (slotWidth * j + 6) s)) (ok-sign (take 17 (drop (slotWidth * j + 6) s)) delta-there) ∙ delta-there
+        ∙ validOp-opAt (take 17 (drop (slotWidth * j + 6) s)) ∙ delta-there

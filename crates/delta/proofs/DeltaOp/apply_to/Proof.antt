@@ -40,10 +40,10 @@ enum-told-2 : tie.Need-enum-told-2
 enum-told-2 c = search needs
 
 returns-4 : tie.Need-returns-4
-returns-4 c = applied-never _ _ _ (c .before .before .before .before .before .before .before .before .checked-add .ensures) _ (c .before .before .before .before .before .before .top .given .1) (sym (c .before .before .before .before .before .before .before .before .before .before .lt .ensures) ∙ c .before .before .before .before .before .before .before .before .before .if1 .left) (sym (c .before .before .before .before .lt2 .ensures) ∙ c .before .before .before .if2 .left) _ (c .before .before .before .before .before .before .before .before .before .before .before .before .before .before .before .pre) (search needs) (c .before .before .add-signed .ensures) (c .enum-told2 .given .1)
+returns-4 c = applied-never _ _ _ (c .before .before .before .before .before .before .before .before .before .checked-add .ensures) _ (c .before .before .before .before .before .before .before .top .given .1) (sym (c .before .before .before .before .before .before .before .before .before .before .before .lt .ensures) ∙ c .before .before .before .before .before .before .before .before .before .before .if1 .left) (sym (c .before .before .before .before .before .lt2 .ensures) ∙ c .before .before .before .before .if2 .left) _ (c .before .before .before .before .before .before .before .before .before .before .before .before .before .before .before .before .pre) (search needs) (c .before .before .add-signed .ensures) (c .enum-told2 .given .1)
 
 returns-5 : tie.Need-returns-5
-returns-5 c = applied-value _ _ _ (c .before .before .before .before .before .before .before .before .before .checked-add .ensures) _ (c .before .before .before .before .before .before .before .top .given .1) (sym (c .before .before .before .before .before .before .before .before .before .before .before .lt .ensures) ∙ c .before .before .before .before .before .before .before .before .before .before .if1 .left) (sym (c .before .before .before .before .before .lt2 .ensures) ∙ c .before .before .before .before .if2 .left) _ _ _ (c .before .before .before .add-signed .ensures) (c .before .n .given .1)
+returns-5 c = applied-value _ _ _ (c .before .before .before .before .before .before .before .before .before .before .checked-add .ensures) _ (c .before .before .before .before .before .before .before .before .top .given .1) (sym (c .before .before .before .before .before .before .before .before .before .before .before .before .lt .ensures) ∙ c .before .before .before .before .before .before .before .before .before .before .before .if1 .left) (sym (c .before .before .before .before .before .before .lt2 .ensures) ∙ c .before .before .before .before .before .if2 .left) _ _ _ (c .before .before .before .add-signed .ensures) (c .before .n .given .1)
 
 pub apply-to-spec : {M : Type 1} → statement M
 apply-to-spec =

@@ -49,10 +49,13 @@ enum-told-3 : tie.Need-enum-told-3
 enum-told-3 c = search needs
 
 returns-4 : tie.Need-returns-4
-returns-4 c = merged-never _ _ _ _ _ _ _ (c .before .before .before .before .before .before .before .before .before .before .before .before .before .before .before .before .before .before .eq .ensures) (c .before .before .before .before .before .before .before .before .before .before .before .before .before .before .before .before .before .if1 .left) (c .before .before .before .before .before .before .before .before .before .before .reached .ensures) (c .before .before .before .before .before .before .before .before .top .given .1) (c .before .before .before .before .before .before .reached2 .ensures) (c .before .before .before .before .bottom .given .1) _ (c .before .before .add-signed .ensures) (c .before .before .before .before .before .before .before .before .before .before .before .before .before .before .before .before .before .before .before .before .before .pre .0) (limit-halves (c .before .before .before .before .before .before .before .before .before .before .before .before .before .before .before .before .before .before .before .before .before)) (c .enum-told3 .given .1)
+returns-4 c = merged-never _ (c .before .before .before .before .before .before .before .before .before .before .before .before .before .before .before .before .before .before .before .before .before .before .before .args .previous) _ _ _ _ _ (c .before .before .before .before .before .before .before .before .before .before .before .before .before .before .before .before .before .before .before .before .eq .ensures) (c .before .before .before .before .before .before .before .before .before .before .before .before .before .before .before .before .before .before .before .if1 .left) (c .before .before .before .before .before .before .before .before .before .before .before .reached .ensures) (c .before .before .before .before .before .before .before .before .before .top .given .1) (c .before .before .before .before .before .before .before .reached2 .ensures) (c .before .before .before .before .before .bottom .given .1) _ (c .before .before .add-signed .ensures) (c .before .before .before .before .before .before .before .before .before .before .before .before .before .before .before .before .before .before .before .before .before .before .before .pre .0) (limit-halves (c .before .before .before .before .before .before .before .before .before .before .before .before .before .before .before .before .before .before .before .before .before .before .before)) (c .enum-told3 .given .1)
+
+cast-sign : tie.Need-cast-sign
+cast-sign c = search needs
 
 returns-5 : tie.Need-returns-5
-returns-5 c = merged-joined _ _ _ _ _ _ _ (c .before .before .before .before .before .before .before .before .before .before .before .before .before .before .before .before .before .before .before .eq .ensures) (c .before .before .before .before .before .before .before .before .before .before .before .before .before .before .before .before .before .before .if1 .left) (c .before .before .before .before .before .before .before .before .before .before .before .reached .ensures) (c .before .before .before .before .before .before .before .before .before .top .given .1) (c .before .before .before .before .before .before .before .reached2 .ensures) (c .before .before .before .before .before .bottom .given .1) _ (c .before .before .before .add-signed .ensures) _ _ (limit-halves (c .before .before .before .before .before .before .before .before .before .before .before .before .before .before .before .before .before .before .before .before .before .before)) (c .before .sum .given .1)
+returns-5 c = merged-joined _ _ _ _ _ _ _ (c .before .before .before .before .before .before .before .before .before .before .before .before .before .before .before .before .before .before .before .before .before .eq .ensures) (c .before .before .before .before .before .before .before .before .before .before .before .before .before .before .before .before .before .before .before .before .if1 .left) (c .before .before .before .before .before .before .before .before .before .before .before .before .reached .ensures) (c .before .before .before .before .before .before .before .before .before .before .top .given .1) (c .before .before .before .before .before .before .before .before .reached2 .ensures) (c .before .before .before .before .before .before .bottom .given .1) _ (c .before .before .before .add-signed .ensures) _ _ (limit-halves (c .before .before .before .before .before .before .before .before .before .before .before .before .before .before .before .before .before .before .before .before .before .before .before .before)) (c .before .sum .given .1)
 
 pub merge-with-previous-delta-spec : {M : Type 1} → statement M
 merge-with-previous-delta-spec =
@@ -72,4 +75,5 @@ merge-with-previous-delta-spec =
     enum-known-sum
     enum-told-3
     returns-4
+    cast-sign
     returns-5)

@@ -1,6 +1,7 @@
 -- `delta::words::read` meets its contract.
 -- Assumes nothing.
-use borrow.Author.Needs.{needs}
+use Prim.Native.Nat.{_+_}
+use borrow.Author.Needs.{needs, fits-under}
 use Rattle.delta.proofs.Places.{op-is}
 use Rattle.delta.proofs.words.read.Statement.{statement}
 use Rattle.delta.proofs.words.read.Tie as tie
@@ -35,6 +36,9 @@ mul-sign c = search needs
 shared-slice-read-sign : tie.Need-shared-slice-read-sign
 shared-slice-read-sign c = search needs
 
+cast-sign : tie.Need-cast-sign
+cast-sign c = fits-under _ _ _ (c .shared-slice-known2 .given (c .before .before .before .before .before .before .args .at + 16) .fits) tt
+
 returns : tie.Need-returns
 returns c = op-is (c .before .before .before .before .before .before .args .s .now) (c .before .before .before .before .before .before .args .at) _ _ _ _ (c .before .before .before .before .read .ensures) (c .before .before .before .read2 .ensures) (c .before .before .read3 .ensures) (c .before .read4 .ensures)
 
@@ -52,4 +56,5 @@ read-spec =
     add-sign
     mul-sign
     shared-slice-read-sign
+    cast-sign
     returns)

@@ -2,6 +2,7 @@
 -- Assumes nothing.
 use borrow.Author.Needs.{needs}
 use mathlib.Core.Path.{sym, _∙_}
+use Rattle.delta.proofs.Format.{is-negative, is-plus}
 use Rattle.delta.proofs.Places.{sign-zero, sign-minus, sign-plus}
 use Rattle.delta.proofs.words.sign_of.Statement.{statement}
 use Rattle.delta.proofs.words.sign_of.Tie as tie
@@ -13,10 +14,10 @@ returns : tie.Need-returns
 returns c = sign-zero _ (sym (c .before .is-zero .ensures) ∙ c .if1 .taken)
 
 returns-2 : tie.Need-returns-2
-returns-2 c = sign-minus _ (sym (c .before .before .is-zero .ensures) ∙ c .before .if1 .left) (c .if2 .taken)
+returns-2 c = sign-minus _ (sym (c .before .before .before .is-zero .ensures) ∙ c .before .before .if1 .left) (is-negative _ (c .if2 .taken))
 
 returns-3 : tie.Need-returns-3
-returns-3 c = sign-plus _ (c .if2 .left)
+returns-3 c = sign-plus _ (is-plus _ (c .if2 .left))
 
 pub sign-of-spec : {M : Type 1} → statement M
 sign-of-spec = tie.close (tie.spec is-zero-requires returns returns-2 returns-3)
