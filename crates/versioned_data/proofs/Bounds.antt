@@ -30,6 +30,10 @@ pub empty-valid : validSoFar (exactly Empty) ≡ true
 unfolding exactly validSoFar
 empty-valid = refl
 
+pub read-walk : (rows : List (Row Entry)) (o : MVDataOutput) → o ≡ outputOf (walk (exactly Empty) rows) → o ≡ outputOf (readOf rows)
+unfolding readOf exactly
+read-walk rows o e = e
+
 pub within-entries : (s : List ℕ) (i : ℕ) → i ≤ length (held s) → i ≤ length (entriesIn s)
 unfolding entriesIn
 within-entries s i h = omega (arith, length-map (held s) entryOf)
@@ -45,8 +49,7 @@ module _ (s : List ℕ) (v : dataValid s ≡ true) (key : ℕ) where
       ap (λ (k : ℕ). downAt key k (entriesIn s)) (place-below bound ∙ ap (λ (k : ℕ). rank key k (entriesIn s)) n)
       ∙ downAt-rank key (bound - 1) (entriesIn s) (rising-valid s v)
 
-  pub read-found : (bound : ShiftedTxnIndex) → 0 < wordOf bound → (w : ℕ) → w ≡ wordOf bound → (i : ℕ) → i ≡ placeOf (1 ∷ key ∷ w ∷ 0 ∷ []) (held s) → (o : MVDataOutput) → o ≡ outputOf (walk (exactly Empty) (downAt key i (entriesIn s))) → o ≡ outputOf (readOf (downFrom key (wordOf bound - 1) (entriesIn s)))
-  unfolding readOf exactly
+  pub read-found : (bound : ShiftedTxnIndex) → 0 < wordOf bound → (w : ℕ) → w ≡ wordOf bound → (i : ℕ) → i ≡ placeOf (1 ∷ key ∷ w ∷ 0 ∷ []) (held s) → (o : MVDataOutput) → o ≡ outputOf (readOf (downAt key i (entriesIn s))) → o ≡ outputOf (readOf (downFrom key (wordOf bound - 1) (entriesIn s)))
   read-found bound h w e i p o f =
       f ∙ ap (λ (l : List (Row Entry)). outputOf (readOf l)) (ap (λ (k : ℕ). downAt key k (entriesIn s)) (p ∙ ap (λ (k : ℕ). placeOf (1 ∷ key ∷ k ∷ 0 ∷ []) (held s)) e) ∙ down-below (wordOf bound) h)
 

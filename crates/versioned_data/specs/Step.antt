@@ -1,15 +1,13 @@
--- One step of the walk of `VersionedValue::read`: it passes a delta that is done and has no shortcut, and stops at anything else.
-use mathlib.Core.Bool.{Bool, true, false, not, _&&_}
+-- What a reader on the way down meets first, by the number of its form: the walk of `VersionedValue::read` goes on from a delta that is done and
+-- has no shortcut, and stops at anything else.
+use mathlib.Core.Bool.{cond}
 use mathlib.Core.List.{List, [], _∷_}
-use mathlib.Core.Option.{none, some}
+use Prim.Native.Nat.{ℕ}
 use Rattle.model.specs.Rows.{Row}
-use Rattle.model.specs.Data.{Cell, write, delta, Entry}
+use Rattle.model.specs.Data.{Entry}
+use Rattle.versioned_data.specs.Layout.{formOf}
 
-unfoldable pub isPassedCell : Cell → Bool
-isPassedCell (write incarnation v) = false
-isPassedCell (delta d (some n)) = false
-isPassedCell (delta d none) = true
-
-unfoldable pub isPassed : List (Row Entry) → Bool
-isPassed [] = false
-isPassed (r ∷ rs) = not (r .held .estimate) && isPassedCell (r .held .cell)
+-- 3 where there is none, or an estimate.
+unfoldable pub formMet : List (Row Entry) → ℕ
+formMet [] = 3
+formMet (r ∷ rs) = cond (r .held .estimate) 3 (formOf (r .held .cell))

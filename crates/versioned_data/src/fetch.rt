@@ -1,6 +1,5 @@
 // What a transaction reads of a key: `VersionedData::fetch_data`.
-use crate::walk::walk;
-use delta::Accumulator;
+use crate::walk::read_from;
 use store::search::lower_bound;
 use types::index::ShiftedTxnIndex;
 use types::index::TxnIndex;
@@ -21,7 +20,7 @@ pub fn read_at(s: &[u32], key: u32, bound: ShiftedTxnIndex) -> MVDataOutput
     ensures read { λ r. ⌜ r ≡ outputOf (readOf (downFrom key (wordOf bound - 1) (entriesIn (now (s .entry))))) ⌝ }
 {
     let i = lower_bound(s, 1, key, bound.word(), 0);
-    walk(s, key, i, Accumulator::Empty)
+    read_from(s, key, i)
 }
 
 pub fn fetch_data(s: &[u32], key: u32, txn_idx: TxnIndex) -> MVDataOutput

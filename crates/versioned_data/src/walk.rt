@@ -9,7 +9,7 @@ use types::output::MVDataOutput;
 use types::value::AsU128;
 use types::value::ValueWithLayout;
 ghost use mathlib.Core.Path.{_≡_};
-ghost use mathlib.Core.Bool.{true, false};
+ghost use mathlib.Core.Bool.{true};
 ghost use Prim.Native.Nat.{_+_, _-_, _*_, _<_, _≤_};
 ghost use lib.ListN.{length, getD};
 ghost use Rattle.number.specs.Number.{valueOf};
@@ -19,11 +19,11 @@ ghost use Rattle.types.specs.Index.{wordOf};
 ghost use Rattle.types.specs.Value.{valueAt};
 ghost use Rattle.types.specs.ValueWithLayout.{wordsOf};
 ghost use Rattle.store.specs.Slots.{slotWidth, slotsIn};
-ghost use Rattle.model.specs.Data.{atEnd, onto, belowDeltas, atWrite, dependency, walk};
+ghost use Rattle.model.specs.Data.{atEnd, onto, belowDeltas, atWrite, dependency, walk, readOf};
 ghost use Rattle.model.specs.Rows.{downAt};
 ghost use Rattle.versioned_data.specs.Layout.{entriesIn, dataValid};
 ghost use Rattle.versioned_data.specs.Output.{outputOf};
-ghost use Rattle.versioned_data.specs.Step.{isPassed};
+ghost use Rattle.versioned_data.specs.Step.{formMet};
 
 // What the walk finds where no entry is left.
 fn at_end(acc: Accumulator) -> MVDataOutput
@@ -101,23 +101,23 @@ fn at_write(s: &[u32], j: usize, at: ShiftedTxnIndex, acc: Accumulator) -> MVDat
     }
 }
 
-// Whether the walk passes the entry before position i: a delta of the key that is done and has no shortcut.
-fn passes(s: &[u32], key: u32, i: usize) -> bool
+// What a reader meets first before position i: 0 a write, 1 a delta without a shortcut, 2 one with it, each of the key and done; else 3.
+fn form_at(s: &[u32], key: u32, i: usize) -> u32
     requires store { ⌜ dataValid (now s) ≡ true ⌝ }
     requires inside { ⌜ i ≤ length (entriesIn (now s)) ⌝ }
-    ensures passed { λ r. ⌜ r ≡ isPassed (downAt key i (entriesIn (now (s .entry)))) ⌝ }
+    ensures form { λ r. ⌜ r ≡ formMet (downAt key i (entriesIn (now (s .entry)))) ⌝ }
 {
     if i == 0 {
-        return false;
+        return 3;
     }
     let j = i - 1;
     if word(s, j, 1) != key {
-        return false;
+        return 3;
     }
     if word(s, j, 5) == 1 {
-        return false;
+        return 3;
     }
-    word(s, j, 4) == 1
+    word(s, j, 4)
 }
 
 // What the walk finds where it stops: at the entry before position i, or with none of the key left.
@@ -126,7 +126,7 @@ fn stop(s: &[u32], key: u32, i: usize, acc: Accumulator) -> MVDataOutput
     requires inside { ⌜ i ≤ length (entriesIn (now s)) ⌝ }
     requires canonical { ⌜ acc ≡ accumulatorOf (exactly acc) ⌝ }
     requires valid { ⌜ validSoFar (exactly acc) ≡ true ⌝ }
-    requires stops { ⌜ isPassed (downAt key i (entriesIn (now s))) ≡ false ⌝ }
+    requires stops { ⌜ (formMet (downAt key i (entriesIn (now s))) ≡ 1 → ⊥) ⌝ }
     ensures found { λ r. ⌜ r ≡ outputOf (walk (exactly acc) (downAt key i (entriesIn (now (s .entry))))) ⌝ }
 {
     if i == 0 {
@@ -155,11 +155,25 @@ pub fn walk(s: &[u32], key: u32, i: usize, acc: Accumulator) -> MVDataOutput
     requires valid { ⌜ validSoFar (exactly acc) ≡ true ⌝ }
     ensures found { λ r. ⌜ r ≡ outputOf (walk (exactly acc) (downAt key i (entriesIn (now (s .entry))))) ⌝ }
 {
-    if !passes(s, key, i) {
+    if form_at(s, key, i) != 1 {
         return stop(s, key, i, acc);
     }
     let j = i - 1;
     let previous = delta::words::read(s, 32 * j + 6);
     let next = acc.accumulate(previous);
     walk(s, key, j, next)
+}
+
+// The walk with nothing gathered. Nearly every read ends at a write right there, which is answered without the walk's accumulator.
+pub fn read_from(s: &[u32], key: u32, i: usize) -> MVDataOutput
+    requires store { ⌜ dataValid (now s) ≡ true ⌝ }
+    requires inside { ⌜ i ≤ length (entriesIn (now s)) ⌝ }
+    ensures found { λ r. ⌜ r ≡ outputOf (readOf (downAt key i (entriesIn (now (s .entry))))) ⌝ }
+{
+    if form_at(s, key, i) != 0 {
+        return walk(s, key, i, Accumulator::Empty);
+    }
+    let j = i - 1;
+    let at = ShiftedTxnIndex::from_word(word(s, j, 2));
+    at_write(s, j, at, Accumulator::Empty)
 }

@@ -1,10 +1,10 @@
 -- `versioned_data::walk::walk` meets its contract.
 -- Assumes nothing.
-use mathlib.Core.Path.{refl}
+use mathlib.Core.Path.{refl, _∙_}
 use native.Mathlib.Omega.{arith}
 use borrow.Author.Needs.{needs}
 use Rattle.store.proofs.Words.{slot-inside, part-inside}
-use Rattle.versioned_data.proofs.Steps.{last-inside, last-few, not-passed, is-passed, passed-pos, passed-form, slot-delta, deeper-canonical, deeper-valid, deeper-walk}
+use Rattle.versioned_data.proofs.Steps.{last-inside, last-few, met-pos, met-form, slot-delta, deeper-canonical, deeper-valid, deeper-walk}
 use Prim.Native.Nat.{ℕ, _<_}
 use borrow.Fn.Kinds.{In}
 use borrow.Fn.PlainCycle.{Measures, is, falls, and}
@@ -13,7 +13,7 @@ use Rattle.versioned_data.proofs.walk.walk.Kinds as walk-kinds
 use Rattle.versioned_data.proofs.walk.+walk.Lts-walk as walk-lts
 use Rattle.delta.proofs.Accumulator.accumulate.Reads as accumulate-reads
 use Rattle.delta.proofs.words.read.Reads as read-reads
-use Rattle.versioned_data.proofs.walk.passes.Reads as passes-reads
+use Rattle.versioned_data.proofs.walk.form_at.Reads as form-at-reads
 use Rattle.versioned_data.proofs.walk.stop.Reads as stop-reads
 use Rattle.versioned_data.proofs.walk.+walk.{statement}
 use Rattle.versioned_data.proofs.walk.+walk.Tie.{close}
@@ -27,9 +27,9 @@ walk-at t = and 1 walk-kinds.ps (is 1 walk-kinds.ps μ-walk t) walk.Pre
 abbrev walk-below : ℕ → In 1 walk-kinds.ps
 walk-below t = and 1 walk-kinds.ps (falls 1 walk-kinds.ps _<_ μ-walk t) walk.Pre
 
-walk-passes-requires : (t : ℕ) → walk-lts.Need-passes-requires (
-  passes-reads.Asked,
-  passes-reads.Learnt,
+walk-form-at-requires : (t : ℕ) → walk-lts.Need-form-at-requires (
+  form-at-reads.Asked,
+  form-at-reads.Learnt,
   stop-reads.Asked,
   stop-reads.Learnt,
   read-reads.Asked,
@@ -39,11 +39,11 @@ walk-passes-requires : (t : ℕ) → walk-lts.Need-passes-requires (
   walk-below t,
   walk.Post,
 ) (walk-at t) walk.Post
-walk-passes-requires t c κs = search needs
+walk-form-at-requires t c κs = search needs
 
 walk-stop-requires : (t : ℕ) → walk-lts.Need-stop-requires (
-  passes-reads.Asked,
-  passes-reads.Learnt,
+  form-at-reads.Asked,
+  form-at-reads.Learnt,
   stop-reads.Asked,
   stop-reads.Learnt,
   read-reads.Asked,
@@ -59,14 +59,14 @@ walk-stop-requires t c κs = (
     c .before .before .before .pre .1 .1 .0,
     (
       c .before .before .before .pre .1 .1 .1 .0,
-      (c .before .before .before .pre .1 .1 .1 .1, not-passed _ _ (c .before .passes .ensures) (c .if1 .taken)),
+      (c .before .before .before .pre .1 .1 .1 .1, λ e. c .if1 .taken (c .before .form-at .ensures ∙ e)),
     ),
   ),
 )
 
 walk-returns : (t : ℕ) → walk-lts.Need-returns (
-  passes-reads.Asked,
-  passes-reads.Learnt,
+  form-at-reads.Asked,
+  form-at-reads.Learnt,
   stop-reads.Asked,
   stop-reads.Learnt,
   read-reads.Asked,
@@ -79,8 +79,8 @@ walk-returns : (t : ℕ) → walk-lts.Need-returns (
 walk-returns t c = search needs
 
 walk-sub-j : (t : ℕ) → walk-lts.Need-sub-j (
-  passes-reads.Asked,
-  passes-reads.Learnt,
+  form-at-reads.Asked,
+  form-at-reads.Learnt,
   stop-reads.Asked,
   stop-reads.Learnt,
   read-reads.Asked,
@@ -91,11 +91,11 @@ walk-sub-j : (t : ℕ) → walk-lts.Need-sub-j (
   walk.Post,
 ) (walk-at t) walk.Post
 walk-sub-j t c =
-    omega (arith, (passed-pos _ _ _ (c .before .before .before .pre .1 .1 .0) (is-passed _ _ (c .before .passes .ensures) (c .if1 .left))))
+    omega (arith, (met-pos _ (c .before .before .before .pre .1 .0) _ _ (c .before .before .before .pre .1 .1 .0) _ (c .before .form-at .ensures) 1 (c .if1 .left) (omega arith)))
 
 walk-mul-read : (t : ℕ) → walk-lts.Need-mul-read (
-  passes-reads.Asked,
-  passes-reads.Learnt,
+  form-at-reads.Asked,
+  form-at-reads.Learnt,
   stop-reads.Asked,
   stop-reads.Learnt,
   read-reads.Asked,
@@ -106,11 +106,11 @@ walk-mul-read : (t : ℕ) → walk-lts.Need-mul-read (
   walk.Post,
 ) (walk-at t) walk.Post
 walk-mul-read t c =
-    omega (arith, slot-inside _ _ (last-few _ _ (passed-pos _ _ _ (c .before .before .before .pre .1 .1 .0) (is-passed _ _ (c .before .passes .ensures) (c .if1 .left))) (c .before .before .before .pre .1 .1 .0)))
+    omega (arith, slot-inside _ _ (last-few _ _ (met-pos _ (c .before .before .before .pre .1 .0) _ _ (c .before .before .before .pre .1 .1 .0) _ (c .before .form-at .ensures) 1 (c .if1 .left) (omega arith)) (c .before .before .before .pre .1 .1 .0)))
 
 walk-add-read : (t : ℕ) → walk-lts.Need-add-read (
-  passes-reads.Asked,
-  passes-reads.Learnt,
+  form-at-reads.Asked,
+  form-at-reads.Learnt,
   stop-reads.Asked,
   stop-reads.Learnt,
   read-reads.Asked,
@@ -121,11 +121,11 @@ walk-add-read : (t : ℕ) → walk-lts.Need-add-read (
   walk.Post,
 ) (walk-at t) walk.Post
 walk-add-read t c =
-    omega (arith, slot-inside _ _ (last-few _ _ (passed-pos _ _ _ (c .before .before .before .pre .1 .1 .0) (is-passed _ _ (c .before .passes .ensures) (c .if1 .left))) (c .before .before .before .pre .1 .1 .0)))
+    omega (arith, slot-inside _ _ (last-few _ _ (met-pos _ (c .before .before .before .pre .1 .0) _ _ (c .before .before .before .pre .1 .1 .0) _ (c .before .form-at .ensures) 1 (c .if1 .left) (omega arith)) (c .before .before .before .pre .1 .1 .0)))
 
 walk-read-requires : (t : ℕ) → walk-lts.Need-read-requires (
-  passes-reads.Asked,
-  passes-reads.Learnt,
+  form-at-reads.Asked,
+  form-at-reads.Learnt,
   stop-reads.Asked,
   stop-reads.Learnt,
   read-reads.Asked,
@@ -136,11 +136,11 @@ walk-read-requires : (t : ℕ) → walk-lts.Need-read-requires (
   walk.Post,
 ) (walk-at t) walk.Post
 walk-read-requires t c κs =
-    part-inside _ 6 17 _ (last-few _ _ (passed-pos _ _ _ (c .before .before .before .pre .1 .1 .0) (is-passed _ _ (c .before .passes .ensures) (c .if1 .left))) (c .before .before .before .pre .1 .1 .0)) (omega arith)
+    part-inside _ 6 17 _ (last-few _ _ (met-pos _ (c .before .before .before .pre .1 .0) _ _ (c .before .before .before .pre .1 .1 .0) _ (c .before .form-at .ensures) 1 (c .if1 .left) (omega arith)) (c .before .before .before .pre .1 .1 .0)) (omega arith)
 
 walk-accumulate-requires : (t : ℕ) → walk-lts.Need-accumulate-requires (
-  passes-reads.Asked,
-  passes-reads.Learnt,
+  form-at-reads.Asked,
+  form-at-reads.Learnt,
   stop-reads.Asked,
   stop-reads.Learnt,
   read-reads.Asked,
@@ -151,11 +151,11 @@ walk-accumulate-requires : (t : ℕ) → walk-lts.Need-accumulate-requires (
   walk.Post,
 ) (walk-at t) walk.Post
 walk-accumulate-requires t c κs =
-    (c .before .before .before .before .pre .1 .1 .1 .1, (slot-delta (c .before .before .before .before .args .s .now) (c .before .before .before .before .pre .1 .0) _ (last-inside _ _ (passed-pos _ _ _ (c .before .before .before .before .pre .1 .1 .0) (is-passed _ _ (c .before .before .passes .ensures) (c .before .if1 .left))) (c .before .before .before .before .pre .1 .1 .0)) (λ i. c .before .before .before .shared-slice-known .given i .fits) _ refl (passed-form _ _ _ (c .before .before .before .before .pre .1 .1 .0) (is-passed _ _ (c .before .before .passes .ensures) (c .before .if1 .left))) _ (c .read .ensures)))
+    (c .before .before .before .before .pre .1 .1 .1 .1, (slot-delta (c .before .before .before .before .args .s .now) (c .before .before .before .before .pre .1 .0) _ (last-inside _ _ (met-pos _ (c .before .before .before .before .pre .1 .0) _ _ (c .before .before .before .before .pre .1 .1 .0) _ (c .before .before .form-at .ensures) 1 (c .before .if1 .left) (omega arith)) (c .before .before .before .before .pre .1 .1 .0)) (λ i. c .before .before .before .shared-slice-known .given i .fits) _ refl (met-form _ (c .before .before .before .before .pre .1 .0) _ _ (c .before .before .before .before .pre .1 .1 .0) _ (c .before .before .form-at .ensures) 1 (c .before .if1 .left) (omega arith)) _ (c .read .ensures)))
 
 walk-walk-requires : (t : ℕ) → walk-lts.Need-walk-requires (
-  passes-reads.Asked,
-  passes-reads.Learnt,
+  form-at-reads.Asked,
+  form-at-reads.Learnt,
   stop-reads.Asked,
   stop-reads.Learnt,
   read-reads.Asked,
@@ -166,11 +166,11 @@ walk-walk-requires : (t : ℕ) → walk-lts.Need-walk-requires (
   walk.Post,
 ) (walk-at t) walk.Post
 walk-walk-requires t c κs =
-    (omega (arith, (passed-pos _ _ _ (c .before .before .before .before .before .pre .1 .1 .0) (is-passed _ _ (c .before .before .before .passes .ensures) (c .before .before .if1 .left)))), (c .before .before .before .before .before .pre .1 .0, (omega arith, (deeper-canonical _ _ _ (c .before .before .before .before .before .pre .1 .1 .0) (is-passed _ _ (c .before .before .before .passes .ensures) (c .before .before .if1 .left)) _ _ (c .before .read .ensures) _ (c .accumulate .ensures), deeper-valid _ _ _ (c .before .before .before .before .before .pre .1 .1 .0) (is-passed _ _ (c .before .before .before .passes .ensures) (c .before .before .if1 .left)) _ _ (c .before .read .ensures) _ (c .accumulate .ensures) (c .before .before .before .before .before .pre .1 .1 .1 .1) (slot-delta (c .before .before .before .before .before .args .s .now) (c .before .before .before .before .before .pre .1 .0) _ (last-inside _ _ (passed-pos _ _ _ (c .before .before .before .before .before .pre .1 .1 .0) (is-passed _ _ (c .before .before .before .passes .ensures) (c .before .before .if1 .left))) (c .before .before .before .before .before .pre .1 .1 .0)) (λ i. c .before .before .before .before .shared-slice-known .given i .fits) _ refl (passed-form _ _ _ (c .before .before .before .before .before .pre .1 .1 .0) (is-passed _ _ (c .before .before .before .passes .ensures) (c .before .before .if1 .left))) _ (c .before .read .ensures))))))
+    (omega (arith, (met-pos _ (c .before .before .before .before .before .pre .1 .0) _ _ (c .before .before .before .before .before .pre .1 .1 .0) _ (c .before .before .before .form-at .ensures) 1 (c .before .before .if1 .left) (omega arith))), (c .before .before .before .before .before .pre .1 .0, (omega arith, (deeper-canonical _ (c .before .before .before .before .before .pre .1 .0) _ _ (c .before .before .before .before .before .pre .1 .1 .0) _ (c .before .before .before .form-at .ensures) 1 (c .before .before .if1 .left) (omega arith) refl _ _ (c .before .read .ensures) _ (c .accumulate .ensures), deeper-valid _ (c .before .before .before .before .before .pre .1 .0) _ _ (c .before .before .before .before .before .pre .1 .1 .0) _ (c .before .before .before .form-at .ensures) 1 (c .before .before .if1 .left) (omega arith) refl _ _ (c .before .read .ensures) _ (c .accumulate .ensures) (c .before .before .before .before .before .pre .1 .1 .1 .1) (slot-delta (c .before .before .before .before .before .args .s .now) (c .before .before .before .before .before .pre .1 .0) _ (last-inside _ _ (met-pos _ (c .before .before .before .before .before .pre .1 .0) _ _ (c .before .before .before .before .before .pre .1 .1 .0) _ (c .before .before .before .form-at .ensures) 1 (c .before .before .if1 .left) (omega arith)) (c .before .before .before .before .before .pre .1 .1 .0)) (λ i. c .before .before .before .before .shared-slice-known .given i .fits) _ refl (met-form _ (c .before .before .before .before .before .pre .1 .0) _ _ (c .before .before .before .before .before .pre .1 .1 .0) _ (c .before .before .before .form-at .ensures) 1 (c .before .before .if1 .left) (omega arith)) _ (c .before .read .ensures))))))
 
 walk-returns-2 : (t : ℕ) → walk-lts.Need-returns-2 (
-  passes-reads.Asked,
-  passes-reads.Learnt,
+  form-at-reads.Asked,
+  form-at-reads.Learnt,
   stop-reads.Asked,
   stop-reads.Learnt,
   read-reads.Asked,
@@ -181,12 +181,12 @@ walk-returns-2 : (t : ℕ) → walk-lts.Need-returns-2 (
   walk.Post,
 ) (walk-at t) walk.Post
 walk-returns-2 t c =
-    deeper-walk _ _ _ (c .before .before .before .before .before .before .pre .1 .1 .0) (is-passed _ _ (c .before .before .before .before .passes .ensures) (c .before .before .before .if1 .left)) _ _ (c .before .before .read .ensures) _ (c .before .accumulate .ensures) _ (c .walk .ensures)
+    deeper-walk _ (c .before .before .before .before .before .before .pre .1 .0) _ _ (c .before .before .before .before .before .before .pre .1 .1 .0) _ (c .before .before .before .before .form-at .ensures) 1 (c .before .before .before .if1 .left) (omega arith) refl _ _ (c .before .before .read .ensures) _ (c .before .accumulate .ensures) _ (c .walk .ensures)
 
 pub +walk-spec : {M : Type 1} → statement M
 +walk-spec = close μ-walk λ t. walk-lts.spec (
-  passes-reads.Asked,
-  passes-reads.Learnt,
+  form-at-reads.Asked,
+  form-at-reads.Learnt,
   stop-reads.Asked,
   stop-reads.Learnt,
   read-reads.Asked,
@@ -198,7 +198,7 @@ pub +walk-spec : {M : Type 1} → statement M
 )
     (walk-at t)
     walk.Post
-    (walk-passes-requires t)
+    (walk-form-at-requires t)
     (walk-stop-requires t)
     (walk-returns t)
     (walk-sub-j t)

@@ -74,7 +74,7 @@ returns-5 c =
     stop-shortcut _ _ (c .before .before .before .before .before .before .before .before .before .before .if1 .left) (c .before .before .before .before .before .before .before .before .before .before .before .before .pre .1 .0) _ _ (c .before .before .before .before .before .before .before .before .before .word .ensures)
     (c .before .before .before .before .before .before .before .before .if2 .left) _ (c .before .before .before .before .before .word3 .ensures) _ _ (c .before .before .before .before .before .before .before .word2 .ensures) _
     (c .before .before .before .before .before .before .from-word .ensures) (c .before .before .before .before .if3 .left) _ (c .before .before .before .word4 .ensures)
-    (c .before .before .before .before .before .before .before .before .before .before .before .before .pre .1 .1 .1 .1) (c .before .before .if4 .left) _ (c .before .read .ensures) _ (c .onto .ensures)
+    (c .before .before .before .before .before .before .before .before .before .before .before .before .pre .0) (c .before .before .before .before .before .before .before .before .before .before .before .before .pre .1 .1 .1 .1) (c .before .before .if4 .left) _ (c .before .read .ensures) _ (c .onto .ensures)
 
 pub stop-spec : {M : Type 1} → statement M
 stop-spec =
