@@ -1,0 +1,83 @@
+//! The rows on the group store: keys with a base of 8 tags, its committed values and one update
+//! of the same 8 tags, which is 26 units a key.
+
+use crate::{
+    data_rows::{held, spread_keys, value},
+    scenario::Scenario,
+};
+use histories::rng::Rng;
+use request::{value::CREATION, Request, Tagged, Value};
+
+const TAGS: usize = 8;
+const UNITS_OF_KEY: usize = 2 * (1 + TAGS) + TAGS;
+/// Where the update of every key is.
+const INDEX: u32 = 5;
+const OPERATIONS: usize = 512;
+
+/// Nothing where not even one key has room.
+pub fn all(units: usize) -> Vec<Scenario> {
+    if units < UNITS_OF_KEY {
+        return vec![];
+    }
+    vec![fetch(units), size(units), rewrite(units)]
+}
+
+fn fetch(units: usize) -> Scenario {
+    row("group fetch", units, |rng, key, tags| {
+        Request::group_fetch(key, u32::from(rng.pick(tags)), rng.pick(&[INDEX, INDEX + 1]))
+    })
+}
+
+fn size(units: usize) -> Scenario {
+    row("group size", units, |_, key, _| Request::group_size(key, INDEX + 1))
+}
+
+fn rewrite(units: usize) -> Scenario {
+    let mut incarnation = 0;
+    row("group rewrite", units, |rng, key, tags| {
+        incarnation += 1;
+        let values: Tagged = tags.iter().map(|tag| (*tag, value(rng.word()))).collect();
+        Request::group_write(key, INDEX, incarnation, &values)
+    })
+}
+
+fn row(
+    row: &'static str,
+    units: usize,
+    mut timed: impl FnMut(&mut Rng, u32, &[u8]) -> Request,
+) -> Scenario {
+    let mut rng = Rng::new(5, units as u64);
+    let keys = spread_keys(&mut rng, (held(units) / UNITS_OF_KEY).max(1));
+    let keys: Vec<(u32, Vec<u8>)> = keys.into_iter().map(|key| (key, tags(&mut rng))).collect();
+    let setup = keys.iter().flat_map(|(key, tags)| group(*key, tags)).chain(filler(units));
+    let setup = setup.collect();
+    let operations = 0..OPERATIONS;
+    let timed = operations.map(|_| {
+        let (key, tags) = &keys[rng.below(keys.len())];
+        timed(&mut rng, *key, tags)
+    });
+    let timed = timed.collect();
+    Scenario { row, units, setup, timed, requests_each: 1 }
+}
+
+/// 8 of the 64 tags, rising.
+fn tags(rng: &mut Rng) -> Vec<u8> {
+    let mut tags = std::collections::BTreeSet::new();
+    while tags.len() < TAGS {
+        tags.insert(rng.below(64) as u8);
+    }
+    tags.into_iter().collect()
+}
+
+fn group(key: u32, tags: &[u8]) -> [Request; 2] {
+    let base: Tagged = tags.iter().map(|tag| (*tag, Value::raw(CREATION, 40))).collect();
+    let update: Tagged = tags.iter().map(|tag| (*tag, value(u32::from(*tag)))).collect();
+    [Request::group_base(key, &base), Request::group_write(key, INDEX, 0, &update)]
+}
+
+/// One update of another key that takes what is missing to 15 of 16 units.
+fn filler(units: usize) -> Option<Request> {
+    let missing = held(units).checked_sub(2 + held(units) / UNITS_OF_KEY * UNITS_OF_KEY)?;
+    let values: Tagged = (0..=missing).map(|tag| (tag as u8, value(0))).collect();
+    Some(Request::group_write(0, 0, 0, &values))
+}
