@@ -95,34 +95,43 @@ impl Maps {
     pub fn call(&self, call: Call, sink: &mut impl Sink) {
         match call {
             Call::LastCommitted(key) => sink.group(self.groups.get_last_committed_group(&key)),
-            Call::Base(key, value) => sink.done(self.data.set_base_value(key, value)),
-            Call::Write(key, index, incarnation, written) => {
-                sink.done(self.data.write(key, index, incarnation, written))
-            }
-            Call::Delta(key, index, delta) => sink.done(self.data.add_delta(key, index, delta)),
-            Call::Estimate(key, index) => sink.done(self.data.mark_estimate(&key, index)),
-            Call::Remove(key, index) => sink.done(self.data.remove(&key, index)),
             Call::Fetch(key, index) => sink.data(self.data.fetch_data(&key, index)),
             Call::Materialise(key, index) => {
-                sink.materialised(self.data.materialize_delta(&key, index))
-            }
-            Call::GroupBase(key, values) => {
-                sink.done(self.groups.set_raw_base_values(key, values))
-            }
-            Call::Exchange(key, tag, (value, layout)) => {
-                let groups = &self.groups;
-                sink.done(groups.update_tagged_base_value_with_layout(key, tag, value, layout))
+                sink.materialised(self.data.materialize_delta(&key, index));
             }
             Call::GroupWrite(key, index, incarnation, values) => {
-                sink.outside(self.groups.write(key, index, incarnation, values))
+                sink.outside(self.groups.write(key, index, incarnation, values));
             }
-            Call::GroupEstimate(key, index) => sink.done(self.groups.mark_estimate(&key, index)),
-            Call::GroupRemove(key, index) => sink.done(self.groups.remove(&key, index)),
             Call::GroupFetch(key, tag, index) => {
-                sink.tagged(self.groups.fetch_tagged_data(&key, &tag, index))
+                sink.tagged(self.groups.fetch_tagged_data(&key, &tag, index));
             }
             Call::GroupSize(key, index) => sink.size(self.groups.get_group_size(&key, index)),
             Call::Finalise(key, index) => sink.group(self.groups.finalize_group(&key, index)),
+            edit => {
+                self.edit(edit);
+                sink.done();
+            }
+        }
+    }
+
+    /// The calls that answer nothing.
+    #[inline(always)]
+    fn edit(&self, call: Call) {
+        match call {
+            Call::Base(key, value) => self.data.set_base_value(key, value),
+            Call::Write(key, index, incarnation, written) => {
+                self.data.write(key, index, incarnation, written);
+            }
+            Call::Delta(key, index, delta) => self.data.add_delta(key, index, delta),
+            Call::Estimate(key, index) => self.data.mark_estimate(&key, index),
+            Call::Remove(key, index) => self.data.remove(&key, index),
+            Call::GroupBase(key, values) => self.groups.set_raw_base_values(key, values),
+            Call::Exchange(key, tag, (value, layout)) => {
+                self.groups.update_tagged_base_value_with_layout(key, tag, value, layout);
+            }
+            Call::GroupEstimate(key, index) => self.groups.mark_estimate(&key, index),
+            Call::GroupRemove(key, index) => self.groups.remove(&key, index),
+            _ => unreachable!("the others answer something"),
         }
     }
 }

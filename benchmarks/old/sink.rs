@@ -12,7 +12,7 @@ type Group = anyhow::Result<Vec<(u8, ValueWithLayout<Held>)>>;
 type Tag = Result<(Version, ValueWithLayout<Held>), MVGroupError>;
 
 pub trait Sink {
-    fn done(&mut self, answer: ());
+    fn done(&mut self);
     fn outside(&mut self, answer: bool);
     fn data(&mut self, answer: Result<MVDataOutput<Held>, MVDataError>);
     fn materialised(&mut self, answer: Result<u128, DeltaOp>);
@@ -34,7 +34,7 @@ impl Checksum {
 /// `black_box` has the answer made whole; what it points to is not read, to the old's favour.
 impl Sink for Checksum {
     #[inline(always)]
-    fn done(&mut self, (): ()) {
+    fn done(&mut self) {
         self.add(1);
     }
 
@@ -79,7 +79,7 @@ impl Words {
 }
 
 impl Sink for Words {
-    fn done(&mut self, (): ()) {
+    fn done(&mut self) {
         self.push(Response::Done);
     }
 

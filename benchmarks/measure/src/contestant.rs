@@ -9,11 +9,16 @@ pub trait Contestant {
     /// Takes the scenario; what can be done once for all rounds is done here.
     fn take(&mut self, scenario: &Scenario);
 
-    /// The answer's words for each timed request, from the scenario's state. A refusal is an
-    /// error: the lists hold none, since the old product would panic.
+    /// The answer's words for each timed request, from the scenario's state. A refusal is a
+    /// panic: the lists hold none, since the old product would panic.
     fn answers(&mut self) -> Vec<Vec<u32>>;
 
     /// Restores the scenario's state, then times the whole list. The checksum is of what was
     /// answered, so that no call can be left out.
     fn round(&mut self) -> (Duration, u64);
+
+    /// Takes part in every so many rounds.
+    fn every(&self) -> usize {
+        1
+    }
 }

@@ -2,9 +2,6 @@
 
 use request::Request;
 
-/// Words of a unit.
-pub const UNIT: usize = 32;
-
 #[derive(Clone)]
 pub struct Scenario {
     pub row: &'static str,
@@ -19,5 +16,13 @@ pub struct Scenario {
 impl Scenario {
     pub fn operations(&self) -> usize {
         self.timed.len() / self.requests_each
+    }
+
+    /// The setup with its keys rising, for stores whose state does not depend on the order of
+    /// arrival: nothing has to move then.
+    pub fn sorted_setup(&self) -> Vec<Request> {
+        let mut setup = self.setup.clone();
+        setup.sort_by_key(|request| request.words()[1]);
+        setup
     }
 }

@@ -1,10 +1,8 @@
 //! The rows on the group store: keys with a base of 8 tags, its committed values and one update
 //! of the same 8 tags, which is 26 units a key.
 
-use crate::{
-    data_rows::{held, spread_keys, value},
-    scenario::Scenario,
-};
+use super::{held, spread_keys, value};
+use crate::scenario::Scenario;
 use histories::rng::Rng;
 use request::{value::CREATION, Request, Tagged, Value};
 
@@ -12,7 +10,8 @@ const TAGS: usize = 8;
 const UNITS_OF_KEY: usize = 2 * (1 + TAGS) + TAGS;
 /// Where the update of every key is.
 const INDEX: u32 = 5;
-const OPERATIONS: usize = 512;
+/// Timed operations of a round; a rewrite is some hundred words.
+const OPERATIONS: usize = 1024;
 
 /// Nothing where not even one key has room.
 pub fn all(units: usize) -> Vec<Scenario> {
@@ -22,6 +21,7 @@ pub fn all(units: usize) -> Vec<Scenario> {
     vec![fetch(units), size(units), rewrite(units)]
 }
 
+/// Half of the fetches see the update, half the base.
 fn fetch(units: usize) -> Scenario {
     row("group fetch", units, |rng, key, tags| {
         Request::group_fetch(key, u32::from(rng.pick(tags)), rng.pick(&[INDEX, INDEX + 1]))
@@ -44,19 +44,19 @@ fn rewrite(units: usize) -> Scenario {
 fn row(
     row: &'static str,
     units: usize,
-    mut timed: impl FnMut(&mut Rng, u32, &[u8]) -> Request,
+    mut request: impl FnMut(&mut Rng, u32, &[u8]) -> Request,
 ) -> Scenario {
     let mut rng = Rng::new(5, units as u64);
     let keys = spread_keys(&mut rng, (held(units) / UNITS_OF_KEY).max(1));
-    let keys: Vec<(u32, Vec<u8>)> = keys.into_iter().map(|key| (key, tags(&mut rng))).collect();
-    let setup = keys.iter().flat_map(|(key, tags)| group(*key, tags)).chain(filler(units));
-    let setup = setup.collect();
-    let operations = 0..OPERATIONS;
-    let timed = operations.map(|_| {
-        let (key, tags) = &keys[rng.below(keys.len())];
-        timed(&mut rng, *key, tags)
-    });
-    let timed = timed.collect();
+    let groups: Vec<(u32, Vec<u8>)> = keys.into_iter().map(|key| (key, tags(&mut rng))).collect();
+    let mut setup: Vec<Request> =
+        groups.iter().flat_map(|(key, tags)| base_and_update(*key, tags)).collect();
+    setup.extend(filler(held(units).saturating_sub(groups.len() * UNITS_OF_KEY)));
+    let mut timed = vec![];
+    for _ in 0..OPERATIONS {
+        let (key, tags) = &groups[rng.below(groups.len())];
+        timed.push(request(&mut rng, *key, tags));
+    }
     Scenario { row, units, setup, timed, requests_each: 1 }
 }
 
@@ -69,15 +69,15 @@ fn tags(rng: &mut Rng) -> Vec<u8> {
     tags.into_iter().collect()
 }
 
-fn group(key: u32, tags: &[u8]) -> [Request; 2] {
+fn base_and_update(key: u32, tags: &[u8]) -> [Request; 2] {
     let base: Tagged = tags.iter().map(|tag| (*tag, Value::raw(CREATION, 40))).collect();
     let update: Tagged = tags.iter().map(|tag| (*tag, value(u32::from(*tag)))).collect();
     [Request::group_base(key, &base), Request::group_write(key, INDEX, 0, &update)]
 }
 
-/// One update of another key that takes what is missing to 15 of 16 units.
-fn filler(units: usize) -> Option<Request> {
-    let missing = held(units).checked_sub(2 + held(units) / UNITS_OF_KEY * UNITS_OF_KEY)?;
-    let values: Tagged = (0..=missing).map(|tag| (tag as u8, value(0))).collect();
+/// An update of one more key that takes the units that are left.
+fn filler(left: usize) -> Option<Request> {
+    let tags = 0..u8::try_from(left.checked_sub(1)?).expect("less than a key takes");
+    let values: Tagged = tags.map(|tag| (tag, value(0))).collect();
     Some(Request::group_write(0, 0, 0, &values))
 }

@@ -1,0 +1,39 @@
+//! The rows of the table: what is timed, from one generator with a fixed seed.
+
+mod block;
+mod data;
+mod group;
+
+use crate::scenario::Scenario;
+use histories::rng::Rng;
+use request::{value::MODIFICATION, Value};
+
+/// The rows, with stores of so many units. Those that do not fit in so few are left out.
+pub fn all(units: usize) -> Vec<Scenario> {
+    let mut rows = data::all(units);
+    rows.extend(group::all(units));
+    rows.push(block::mixed(units));
+    rows
+}
+
+/// 15 of 16 units are held.
+fn held(units: usize) -> usize {
+    units / 16 * 15
+}
+
+/// Different keys, anywhere in the 32 bits, in no order.
+fn spread_keys(rng: &mut Rng, count: usize) -> Vec<u32> {
+    let mut keys = Vec::new();
+    while keys.len() < count {
+        let key = rng.word();
+        if !keys.contains(&key) {
+            keys.push(key);
+        }
+    }
+    keys
+}
+
+/// What transactions write: bytes without a number.
+fn value(handle: u32) -> Value {
+    Value::exchanged(MODIFICATION, 100).handle(handle)
+}

@@ -1,0 +1,72 @@
+//! The comparison before the timing finds a contestant that does other work.
+
+use measure::{
+    library::{Inner, Open, Typed},
+    rounds::measure,
+    rows,
+    scenario::Scenario,
+    Contestant,
+};
+use std::time::Duration;
+
+/// The inner call, with one word of one answer changed, or the last answer left out.
+struct Wrong {
+    inner: Inner,
+    damage: fn(&mut Vec<Vec<u32>>),
+}
+
+impl Contestant for Wrong {
+    fn name(&self) -> &'static str {
+        "wrong"
+    }
+
+    fn take(&mut self, scenario: &Scenario) {
+        self.inner.take(scenario);
+    }
+
+    fn answers(&mut self) -> Vec<Vec<u32>> {
+        let mut answers = self.inner.answers();
+        (self.damage)(&mut answers);
+        answers
+    }
+
+    fn round(&mut self) -> (Duration, u64) {
+        self.inner.round()
+    }
+}
+
+fn measure_against(damage: fn(&mut Vec<Vec<u32>>)) {
+    let wrong = Wrong { inner: Inner::default(), damage };
+    let mut contestants: Vec<Box<dyn Contestant>> = vec![Box::<Inner>::default(), Box::new(wrong)];
+    measure(&rows::all(32)[0], &mut contestants, 0.0);
+}
+
+#[test]
+fn the_undamaged_agree() {
+    measure_against(|_| ());
+}
+
+#[test]
+#[should_panic(expected = "request 7 (fetch")]
+fn a_word_of_an_answer() {
+    measure_against(|answers| answers[7][1] ^= 1);
+}
+
+#[test]
+#[should_panic(expected = "left == right")]
+fn an_answer_less() {
+    measure_against(|answers| drop(answers.pop()));
+}
+
+/// The library's three ways agree on every row of the small stores; the program itself compares
+/// them with the old product before it times a row.
+#[test]
+fn every_row() {
+    for units in [16, 64] {
+        for scenario in rows::all(units) {
+            let mut contestants: Vec<Box<dyn Contestant>> =
+                vec![Box::<Inner>::default(), Box::<Typed>::default(), Box::<Open>::default()];
+            measure(&scenario, &mut contestants, 0.0);
+        }
+    }
+}
