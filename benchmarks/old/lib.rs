@@ -7,7 +7,7 @@ mod call;
 mod convert;
 mod sink;
 
-use call::{Call, Maps};
+use call::{Calls, Maps};
 use measure::{contestant::Contestant, scenario::Scenario};
 use request::Request;
 use sink::{Checksum, Words};
@@ -27,9 +27,7 @@ impl Old {
     /// The maps cannot be copied, so each round makes them anew.
     fn start(&self) -> Maps {
         let maps = Maps::default();
-        for request in &self.setup {
-            maps.call(Call::of(request), &mut Checksum::default());
-        }
+        maps.call_all(Calls::of(&self.setup), &mut Checksum::default());
         maps
     }
 }
@@ -47,21 +45,17 @@ impl Contestant for Old {
     fn answers(&mut self) -> Vec<Vec<u32>> {
         let maps = self.start();
         let mut sink = Words::default();
-        for request in &self.timed {
-            maps.call(Call::of(request), &mut sink);
-        }
+        maps.call_all(Calls::of(&self.timed), &mut sink);
         sink.0
     }
 
     /// The requests are decoded into the old types before the clock starts: its users have them.
     fn round(&mut self) -> (Duration, u64) {
         let maps = self.start();
-        let calls: Vec<Call> = self.timed.iter().map(Call::of).collect();
+        let calls = Calls::of(&self.timed);
         let mut sink = Checksum::default();
         let start = Instant::now();
-        for call in calls {
-            maps.call(call, &mut sink);
-        }
+        maps.call_all(calls, &mut sink);
         (start.elapsed(), sink.0)
     }
 }

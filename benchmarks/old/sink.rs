@@ -12,7 +12,8 @@ type Group = anyhow::Result<Vec<(u8, ValueWithLayout<Held>)>>;
 type Tag = Result<(Version, ValueWithLayout<Held>), MVGroupError>;
 
 pub trait Sink {
-    fn done(&mut self);
+    /// A call that answers nothing.
+    fn done(&mut self, call: impl FnOnce());
     fn outside(&mut self, answer: bool);
     fn data(&mut self, answer: Result<MVDataOutput<Held>, MVDataError>);
     fn materialised(&mut self, answer: Result<u128, DeltaOp>);
@@ -34,7 +35,8 @@ impl Checksum {
 /// `black_box` has the answer made whole; what it points to is not read, to the old's favour.
 impl Sink for Checksum {
     #[inline(always)]
-    fn done(&mut self) {
+    fn done(&mut self, call: impl FnOnce()) {
+        call();
         self.add(1);
     }
 
@@ -79,7 +81,8 @@ impl Words {
 }
 
 impl Sink for Words {
-    fn done(&mut self) {
+    fn done(&mut self, call: impl FnOnce()) {
+        call();
         self.push(Response::Done);
     }
 
