@@ -8,10 +8,10 @@ mod convert;
 mod sink;
 
 use call::{Calls, Maps};
-use measure::{contestant::Contestant, scenario::Scenario};
+use measure::{clock, contestant::Contestant, scenario::Scenario};
 use request::Request;
 use sink::{Checksum, Words};
-use std::time::{Duration, Instant};
+use std::time::Duration;
 
 pub struct Old {
     name: &'static str,
@@ -53,9 +53,10 @@ impl Contestant for Old {
     fn round(&mut self) -> (Duration, u64) {
         let maps = self.start();
         let calls = Calls::of(&self.timed);
-        let mut sink = Checksum::default();
-        let start = Instant::now();
-        maps.call_all(calls, &mut sink);
-        (start.elapsed(), sink.0)
+        clock::timed(|| {
+            let mut sink = Checksum::default();
+            maps.call_all(calls, &mut sink);
+            sink.0
+        })
     }
 }

@@ -3,18 +3,19 @@
 use std::path::PathBuf;
 
 pub const USAGE: &str = "compare [--quick] [--no-growth] [--csv FILE] [--row ROW] [--only NAME]
-  --quick       a tenth of the time
+  --quick       one short pass
   --no-growth   only the table at 512 units
   --csv FILE    every figure, a line each
   --row ROW     only this row, by its name in the table
   --only NAME   only this contestant, by its name in the table (for a profile)";
 
-/// What a row of the table and a row of the growth may take.
-const TABLE_SECONDS: f64 = 3.0;
-const GROWTH_SECONDS: f64 = 0.8;
+/// Passes, and what a row of the table and a row of the growth may take in each.
+const PASSES: usize = 4;
+const TABLE_SECONDS: f64 = 1.5;
+const GROWTH_SECONDS: f64 = 0.3;
 
 pub struct Arguments {
-    pub quick: bool,
+    quick: bool,
     pub growth: bool,
     pub csv: Option<PathBuf>,
     row: Option<String>,
@@ -46,12 +47,20 @@ impl Arguments {
         self.only.as_ref().is_none_or(|wanted| wanted == name)
     }
 
-    pub fn seconds_at(&self, in_table: bool) -> f64 {
-        let whole = if in_table { TABLE_SECONDS } else { GROWTH_SECONDS };
+    pub fn passes(&self) -> usize {
         if self.quick {
-            whole / 10.0
+            1
         } else {
-            whole
+            PASSES
+        }
+    }
+
+    /// What a row may take in a pass.
+    pub fn seconds(&self, in_table: bool) -> f64 {
+        match (self.quick, in_table) {
+            (true, _) => GROWTH_SECONDS,
+            (false, true) => TABLE_SECONDS,
+            (false, false) => GROWTH_SECONDS,
         }
     }
 }

@@ -1,6 +1,7 @@
 //! The benchmark: rows, contestants, rounds and tables.
 
 pub mod arguments;
+pub mod clock;
 pub mod contestant;
 pub mod library;
 pub mod report;
@@ -12,6 +13,7 @@ pub use contestant::Contestant;
 
 use arguments::Arguments;
 use rounds::{measure, Measured};
+use scenario::Scenario;
 
 /// The store of the table: 480 entries in 512 units.
 const UNITS: usize = 512;
@@ -24,17 +26,15 @@ pub fn run(
     mut contestants: Vec<Box<dyn Contestant>>,
 ) -> std::io::Result<()> {
     contestants.retain(|contestant| arguments.wants_contestant(contestant.name()));
-    let mut all = vec![];
-    let sizes: Vec<usize> = match arguments.growth {
-        true => GROWTH.map(|power| 1 << power).collect(),
-        false => vec![UNITS],
-    };
-    for units in sizes {
-        let seconds = arguments.seconds_at(units == UNITS);
-        let rows = rows::all(units).into_iter().filter(|row| arguments.wants_row(row.row));
-        for scenario in rows {
-            eprintln!("{} at {units} units: {}", scenario.row, report::mix(&scenario.timed));
-            all.push(measure(&scenario, &mut contestants, seconds));
+    let scenarios = scenarios(arguments);
+    let start = |scenario| Measured::new(scenario, &contestants);
+    let mut all: Vec<Measured> = scenarios.iter().map(start).collect();
+    for pass in 1..=arguments.passes() {
+        for (scenario, measured) in scenarios.iter().zip(&mut all) {
+            let (row, units) = (scenario.row, scenario.units);
+            eprintln!("pass {pass}, {row} at {units} units: {}", report::mix(&scenario.timed));
+            let seconds = arguments.seconds(units == UNITS);
+            measure(scenario, &mut contestants, seconds, measured);
         }
     }
     let table: Vec<&Measured> = all.iter().filter(|measured| measured.units == UNITS).collect();
@@ -46,4 +46,13 @@ pub fn run(
         Some(path) => std::fs::write(path, report::csv(&all)),
         None => Ok(()),
     }
+}
+
+fn scenarios(arguments: &Arguments) -> Vec<Scenario> {
+    let sizes: Vec<usize> = match arguments.growth {
+        true => GROWTH.map(|power| 1 << power).collect(),
+        false => vec![UNITS],
+    };
+    let rows = sizes.into_iter().flat_map(rows::all);
+    rows.filter(|scenario| arguments.wants_row(scenario.row)).collect()
 }

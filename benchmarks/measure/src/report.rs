@@ -20,7 +20,7 @@ pub fn table(measured: &[&Measured]) -> String {
     let mut heads: Vec<String> = first.figures.iter().map(|f| f.name.to_string()).collect();
     heads.extend(quotients.iter().map(|(new, old)| format!("{new} / {old}")));
     let rows = measured.iter().map(|measured| {
-        let mut cells: Vec<String> = measured.figures.iter().map(|f| ns(f.best)).collect();
+        let mut cells: Vec<String> = measured.figures.iter().map(|f| ns(f.best())).collect();
         cells.extend(quotients.iter().map(|(new, old)| quotient(measured, new, old)));
         (measured.row.to_string(), cells)
     });
@@ -72,8 +72,14 @@ pub fn csv(measured: &[Measured]) -> String {
     for m in measured {
         for f in &m.figures {
             let (row, units, name) = (m.row, m.units, f.name);
-            writeln!(text, "{row},{units},\"{name}\",{:.1},{:.1},{}", f.best, f.median, f.rounds)
-                .expect("a string takes all");
+            writeln!(
+                text,
+                "{row},{units},\"{name}\",{:.1},{:.1},{}",
+                f.best(),
+                f.median(),
+                f.rounds()
+            )
+            .expect("a string takes all");
         }
     }
     text

@@ -3,16 +3,30 @@
 use crate::{contestant::Contestant, scenario::Scenario};
 use std::time::Instant;
 
-/// However slow a round is, there are so many, and some before them to warm up.
-const LEAST_ROUNDS: usize = 16;
+/// However slow a round is, there are so many in a pass, and some before them to warm up.
+const LEAST_ROUNDS: usize = 8;
 const WARM_UP: usize = 2;
 
 pub struct Figures {
     pub name: &'static str,
-    /// ns an operation: the best round and the median one.
-    pub best: f64,
-    pub median: f64,
-    pub rounds: usize,
+    /// ns an operation, of each round.
+    times: Vec<f64>,
+}
+
+impl Figures {
+    pub fn best(&self) -> f64 {
+        self.times.iter().copied().fold(f64::INFINITY, f64::min)
+    }
+
+    pub fn median(&self) -> f64 {
+        let mut times = self.times.clone();
+        times.sort_by(f64::total_cmp);
+        times[times.len() / 2]
+    }
+
+    pub fn rounds(&self) -> usize {
+        self.times.len()
+    }
 }
 
 pub struct Measured {
@@ -22,44 +36,44 @@ pub struct Measured {
 }
 
 impl Measured {
+    pub fn new(scenario: &Scenario, contestants: &[Box<dyn Contestant>]) -> Self {
+        let figures = contestants.iter().map(|c| Figures { name: c.name(), times: vec![] });
+        Self { row: scenario.row, units: scenario.units, figures: figures.collect() }
+    }
+
     /// The best of a contestant, if it took part.
     pub fn best(&self, name: &str) -> Option<f64> {
-        self.figures.iter().find(|figures| figures.name == name).map(|figures| figures.best)
+        self.figures.iter().find(|figures| figures.name == name).map(Figures::best)
     }
 }
 
+/// A pass of rounds, added to what was measured before. A machine with other work on it is slow
+/// for seconds on end, so each row has several passes, some time apart.
 pub fn measure(
     scenario: &Scenario,
     contestants: &mut [Box<dyn Contestant>],
     seconds: f64,
-) -> Measured {
+    measured: &mut Measured,
+) {
     for contestant in contestants.iter_mut() {
         contestant.take(scenario);
     }
     agree(scenario, contestants);
-    let mut times = vec![vec![]; contestants.len()];
     let start = Instant::now();
     let mut round = 0;
     while round < WARM_UP + LEAST_ROUNDS || start.elapsed().as_secs_f64() < seconds {
-        for (contestant, times) in contestants.iter_mut().zip(&mut times) {
+        for (contestant, figures) in contestants.iter_mut().zip(&mut measured.figures) {
             if round % contestant.every() != 0 {
                 continue;
             }
             let (time, sum) = contestant.round();
             std::hint::black_box(sum);
             if round >= WARM_UP {
-                times.push(time.as_nanos() as f64 / scenario.operations() as f64);
+                figures.times.push(time.as_nanos() as f64 / scenario.operations() as f64);
             }
         }
         round += 1;
     }
-    let figures = contestants.iter().zip(&mut times).map(|(c, times)| figures(c.name(), times));
-    Measured { row: scenario.row, units: scenario.units, figures: figures.collect() }
-}
-
-fn figures(name: &'static str, times: &mut [f64]) -> Figures {
-    times.sort_by(f64::total_cmp);
-    Figures { name, best: times[0], median: times[times.len() / 2], rounds: times.len() }
 }
 
 /// A benchmark on different work would be worth nothing: all must answer the list alike.

@@ -2,7 +2,7 @@
 
 use measure::{
     library::{Inner, Open, Typed},
-    rounds::measure,
+    rounds::{measure, Measured},
     rows,
     scenario::Scenario,
     Contestant,
@@ -35,10 +35,15 @@ impl Contestant for Wrong {
     }
 }
 
+fn pass(scenario: &Scenario, contestants: &mut [Box<dyn Contestant>]) {
+    let mut measured = Measured::new(scenario, contestants);
+    measure(scenario, contestants, 0.0, &mut measured);
+}
+
 fn measure_against(damage: fn(&mut Vec<Vec<u32>>)) {
     let wrong = Wrong { inner: Inner::default(), damage };
     let mut contestants: Vec<Box<dyn Contestant>> = vec![Box::<Inner>::default(), Box::new(wrong)];
-    measure(&rows::all(32)[0], &mut contestants, 0.0);
+    pass(&rows::all(32)[0], &mut contestants);
 }
 
 #[test]
@@ -66,7 +71,7 @@ fn every_row() {
         for scenario in rows::all(units) {
             let mut contestants: Vec<Box<dyn Contestant>> =
                 vec![Box::<Inner>::default(), Box::<Typed>::default(), Box::<Open>::default()];
-            measure(&scenario, &mut contestants, 0.0);
+            pass(&scenario, &mut contestants);
         }
     }
 }

@@ -4,12 +4,9 @@ use super::{
     typed_call::{ask, Call, Sink},
     typed_words::Words,
 };
-use crate::{contestant::Contestant, scenario::Scenario};
+use crate::{clock, contestant::Contestant, scenario::Scenario};
 use proved_mvhashmap::MVHashMap;
-use std::{
-    hint::black_box,
-    time::{Duration, Instant},
-};
+use std::{hint::black_box, time::Duration};
 
 #[derive(Default)]
 pub struct Typed {
@@ -71,11 +68,12 @@ impl Contestant for Typed {
 
     fn round(&mut self) -> (Duration, u64) {
         let map = self.start();
-        let mut sum = Checksum::default();
-        let start = Instant::now();
-        for call in &self.timed {
-            ask(&map, call, &mut sum);
-        }
-        (start.elapsed(), sum.0)
+        clock::timed(|| {
+            let mut sum = Checksum::default();
+            for call in &self.timed {
+                ask(&map, call, &mut sum);
+            }
+            sum.0
+        })
     }
 }

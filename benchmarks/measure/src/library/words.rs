@@ -1,12 +1,9 @@
 //! Request words in, answer words out.
 
-use crate::{contestant::Contestant, scenario::Scenario};
+use crate::{clock, contestant::Contestant, scenario::Scenario};
 use proved_mvhashmap::{call, MVHashMap, Refusal, ANSWER_WORDS, UNIT_WORDS};
 use request::{head_count, readable, Request};
-use std::{
-    hint::black_box,
-    time::{Duration, Instant},
-};
+use std::{hint::black_box, time::Duration};
 
 /// The call for stores known to be valid, without a lock.
 pub struct Inner {
@@ -155,13 +152,14 @@ impl List {
         mut call: impl FnMut(&[u32], &mut [u32]) -> Result<(), Refusal>,
     ) -> (Duration, u64) {
         let mut answer = [0; ANSWER_WORDS];
-        let mut sum = 0u64;
-        let start = Instant::now();
-        self.each(|request| {
-            let accepted = call(request, &mut answer).is_ok();
-            let answer = black_box(&answer);
-            sum = sum.wrapping_add(u64::from(accepted) + u64::from(answer[0] ^ answer[1]));
-        });
-        (start.elapsed(), sum)
+        clock::timed(|| {
+            let mut sum = 0u64;
+            self.each(|request| {
+                let accepted = call(request, &mut answer).is_ok();
+                let answer = black_box(&answer);
+                sum = sum.wrapping_add(u64::from(accepted) + u64::from(answer[0] ^ answer[1]));
+            });
+            sum
+        })
     }
 }

@@ -1,6 +1,6 @@
 //! The rows on the data store.
 
-use super::{held, spread_keys, value};
+use super::{fewer_operations, held, spread_keys, value};
 use crate::scenario::Scenario;
 use histories::rng::Rng;
 use request::{value::CREATION, Delta, Request, Value};
@@ -24,7 +24,7 @@ pub fn all(units: usize) -> Vec<Scenario> {
 fn fetch(units: usize) -> Scenario {
     let mut rng = Rng::new(1, units as u64);
     let places = places(&mut rng, held(units), ENTRIES);
-    let timed = drawn(&mut rng, &places, |rng, (key, index)| {
+    let timed = drawn(&mut rng, &places, OPERATIONS, |rng, (key, index)| {
         vec![Request::fetch(key, index + 1 + rng.below(STRETCH) as u32)]
     });
     Scenario { row: "fetch", units, setup: written(&places), timed, requests_each: 1 }
@@ -35,7 +35,7 @@ fn rewrite(units: usize) -> Scenario {
     let mut rng = Rng::new(2, units as u64);
     let places = places(&mut rng, held(units), ENTRIES);
     let mut incarnation = 0;
-    let timed = drawn(&mut rng, &places, |rng, (key, index)| {
+    let timed = drawn(&mut rng, &places, OPERATIONS, |rng, (key, index)| {
         incarnation += 1;
         vec![Request::write(key, index, incarnation, value(rng.word()))]
     });
@@ -45,7 +45,7 @@ fn rewrite(units: usize) -> Scenario {
 fn remove_and_write(units: usize) -> Scenario {
     let mut rng = Rng::new(3, units as u64);
     let places = places(&mut rng, held(units), ENTRIES);
-    let timed = drawn(&mut rng, &places, |rng, (key, index)| {
+    let timed = drawn(&mut rng, &places, fewer_operations(units), |rng, (key, index)| {
         vec![Request::remove(key, index), Request::write(key, index, 1, value(rng.word()))]
     });
     Scenario { row: "remove and write", units, setup: written(&places), timed, requests_each: 2 }
@@ -58,7 +58,9 @@ fn fetch_over_deltas(units: usize) -> Scenario {
     let setup = places.chunks(DELTAS + 1).flat_map(deltas_over_a_write).collect();
     let highest: Vec<Place> =
         places.chunks_exact(DELTAS + 1).map(|of_key| of_key[DELTAS]).collect();
-    let timed = drawn(&mut rng, &highest, |_, (key, index)| vec![Request::fetch(key, index + 1)]);
+    let timed = drawn(&mut rng, &highest, OPERATIONS, |_, (key, index)| {
+        vec![Request::fetch(key, index + 1)]
+    });
     Scenario { row: "fetch over 14 deltas", units, setup, timed, requests_each: 1 }
 }
 
@@ -91,10 +93,11 @@ fn written(places: &[Place]) -> Vec<Request> {
 fn drawn(
     rng: &mut Rng,
     places: &[Place],
+    operations: usize,
     mut operation: impl FnMut(&mut Rng, Place) -> Vec<Request>,
 ) -> Vec<Request> {
     let mut requests = vec![];
-    for _ in 0..OPERATIONS {
+    for _ in 0..operations {
         let place = rng.pick(places);
         requests.extend(operation(rng, place));
     }

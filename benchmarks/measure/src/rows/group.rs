@@ -1,7 +1,7 @@
 //! The rows on the group store: keys with a base of 8 tags, its committed values and one update
 //! of the same 8 tags, which is 26 units a key.
 
-use super::{held, spread_keys, value};
+use super::{fewer_operations, held, spread_keys, value};
 use crate::scenario::Scenario;
 use histories::rng::Rng;
 use request::{value::CREATION, Request, Tagged, Value};
@@ -10,7 +10,7 @@ const TAGS: usize = 8;
 const UNITS_OF_KEY: usize = 2 * (1 + TAGS) + TAGS;
 /// Where the update of every key is.
 const INDEX: u32 = 5;
-/// Timed operations of a round; a rewrite is some hundred words.
+/// Timed operations of a round.
 const OPERATIONS: usize = 1024;
 
 /// Nothing where not even one key has room.
@@ -23,18 +23,18 @@ pub fn all(units: usize) -> Vec<Scenario> {
 
 /// Half of the fetches see the update, half the base.
 fn fetch(units: usize) -> Scenario {
-    row("group fetch", units, |rng, key, tags| {
+    row("group fetch", units, OPERATIONS, |rng, key, tags| {
         Request::group_fetch(key, u32::from(rng.pick(tags)), rng.pick(&[INDEX, INDEX + 1]))
     })
 }
 
 fn size(units: usize) -> Scenario {
-    row("group size", units, |_, key, _| Request::group_size(key, INDEX + 1))
+    row("group size", units, OPERATIONS, |_, key, _| Request::group_size(key, INDEX + 1))
 }
 
 fn rewrite(units: usize) -> Scenario {
     let mut incarnation = 0;
-    row("group rewrite", units, |rng, key, tags| {
+    row("group rewrite", units, fewer_operations(units), |rng, key, tags| {
         incarnation += 1;
         let values: Tagged = tags.iter().map(|tag| (*tag, value(rng.word()))).collect();
         Request::group_write(key, INDEX, incarnation, &values)
@@ -44,6 +44,7 @@ fn rewrite(units: usize) -> Scenario {
 fn row(
     row: &'static str,
     units: usize,
+    operations: usize,
     mut request: impl FnMut(&mut Rng, u32, &[u8]) -> Request,
 ) -> Scenario {
     let mut rng = Rng::new(5, units as u64);
@@ -53,7 +54,7 @@ fn row(
         groups.iter().flat_map(|(key, tags)| base_and_update(*key, tags)).collect();
     setup.extend(filler(held(units).saturating_sub(groups.len() * UNITS_OF_KEY)));
     let mut timed = vec![];
-    for _ in 0..OPERATIONS {
+    for _ in 0..operations {
         let (key, tags) = &groups[rng.below(groups.len())];
         timed.push(request(&mut rng, *key, tags));
     }

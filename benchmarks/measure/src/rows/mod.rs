@@ -33,6 +33,11 @@ fn spread_keys(rng: &mut Rng, count: usize) -> Vec<u32> {
     keys
 }
 
+/// Timed operations of a round, where one takes longer the more units there are.
+fn fewer_operations(units: usize) -> usize {
+    ((1 << 19) / units).clamp(128, 1024)
+}
+
 /// What transactions write: bytes without a number.
 fn value(handle: u32) -> Value {
     Value::exchanged(MODIFICATION, 100).handle(handle)
