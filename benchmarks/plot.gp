@@ -15,7 +15,7 @@ set ylabel "time an operation" font ",10"
 of(row, who) = sprintf("< awk -F'\"' '{split($1, a, \",\"); split($3, b, \",\")} a[1] == \"%s\" && $2 == \"%s\" {print a[2] \",\" b[2]}' %s", row, who, csv)
 
 rows = "'fetch' 'rewrite' 'remove and write' 'fetch over 14 deltas' 'group fetch' 'group size' 'group rewrite' 'mixed block'"
-set multiplot layout 2,4 title "The old Rust and the proved library, best of many rounds, one thread" font ",14"
+set multiplot layout 2,4 title "The old Rust and the proved library, best of a hundred rounds, one thread" font ",14"
 do for [row in rows] {
     set title row font ",12"
     # One legend is enough.

@@ -24,7 +24,7 @@ pub fn table(measured: &[&Measured]) -> String {
         cells.extend(quotients.iter().map(|(new, old)| quotient(measured, new, old)));
         (measured.row.to_string(), cells)
     });
-    markdown("ns, best round", &heads, rows)
+    markdown("ns, best of a hundred rounds", &heads, rows)
 }
 
 /// The library beside the old product for each size.
@@ -51,7 +51,7 @@ pub fn growth(measured: &[Measured]) -> String {
         });
         (format!("{row}: {name}"), cells.collect())
     });
-    markdown("ns, best round", &heads, lines)
+    markdown("ns, best of a hundred rounds", &heads, lines)
 }
 
 /// How many requests a list has, and of which kinds.

@@ -14,14 +14,20 @@ pub struct Figures {
 }
 
 impl Figures {
+    /// The round that one of a hundred beats. The very best was once, for one contestant, a sixth
+    /// below what all other runs had; why is not known.
     pub fn best(&self) -> f64 {
-        self.times.iter().copied().fold(f64::INFINITY, f64::min)
+        self.at_share(0.01)
     }
 
     pub fn median(&self) -> f64 {
+        self.at_share(0.5)
+    }
+
+    fn at_share(&self, share: f64) -> f64 {
         let mut times = self.times.clone();
         times.sort_by(f64::total_cmp);
-        times[times.len() / 2]
+        times[(share * times.len() as f64) as usize]
     }
 
     pub fn rounds(&self) -> usize {
