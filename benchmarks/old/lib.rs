@@ -42,10 +42,10 @@ impl Contestant for Old {
         self.timed.clone_from(&scenario.timed);
     }
 
-    fn answers(&mut self) -> Vec<Vec<u32>> {
+    fn answers(&mut self, requests: &[Request]) -> Vec<Vec<u32>> {
         let maps = self.start();
         let mut sink = Words::default();
-        maps.call_all(Calls::of(&self.timed), &mut sink);
+        maps.call_all(Calls::of(requests), &mut sink);
         sink.0
     }
 

@@ -1,6 +1,7 @@
 //! What a contestant must do: start from the scenario's state, answer its list, be timed on it.
 
 use crate::scenario::Scenario;
+use request::Request;
 use std::time::Duration;
 
 pub trait Contestant {
@@ -9,9 +10,9 @@ pub trait Contestant {
     /// Takes the scenario; what can be done once for all rounds is done here.
     fn take(&mut self, scenario: &Scenario);
 
-    /// The answer's words for each timed request, from the scenario's state. A refusal is a
+    /// The answer's words for each of these requests, from the scenario's state. A refusal is a
     /// panic: the lists hold none, since the old product would panic.
-    fn answers(&mut self) -> Vec<Vec<u32>>;
+    fn answers(&mut self, requests: &[Request]) -> Vec<Vec<u32>>;
 
     /// Restores the scenario's state, then times the whole list. The checksum is of what was
     /// answered, so that no call can be left out.

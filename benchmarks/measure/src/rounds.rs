@@ -82,15 +82,17 @@ pub fn measure(
     }
 }
 
-/// A benchmark on different work would be worth nothing: all must answer the list alike.
+/// A benchmark on different work would be worth nothing: all must answer the list alike, and leave
+/// the same behind.
 fn agree(scenario: &Scenario, contestants: &mut [Box<dyn Contestant>]) {
     let Some((first, others)) = contestants.split_first_mut() else {
         return;
     };
-    let expected = first.answers();
-    assert_eq!(expected.len(), scenario.timed.len());
+    let requests = [scenario.timed.as_slice(), &scenario.probes()].concat();
+    let expected = first.answers(&requests);
+    assert_eq!(expected.len(), requests.len());
     for other in others {
-        let answers = other.answers();
+        let answers = other.answers(&requests);
         assert_eq!(answers.len(), expected.len());
         for (n, (answer, expected)) in answers.iter().zip(&expected).enumerate() {
             assert!(
@@ -98,7 +100,7 @@ fn agree(scenario: &Scenario, contestants: &mut [Box<dyn Contestant>]) {
                 "{} at {} units, request {n} ({}): {} answers {:X?}, {} {:X?}",
                 scenario.row,
                 scenario.units,
-                scenario.timed[n],
+                requests[n],
                 first.name(),
                 expected,
                 other.name(),

@@ -1,6 +1,7 @@
 //! What is measured: requests that make a state, and the list that is timed on it.
 
-use request::Request;
+use request::{Kind, Request};
+use std::collections::BTreeSet;
 
 #[derive(Clone)]
 pub struct Scenario {
@@ -18,11 +19,39 @@ impl Scenario {
         self.timed.len() / self.requests_each
     }
 
+    /// Reads of all that the list may have left, to be asked after it and not timed: most edits
+    /// answer just "done", so only the state shows whether they were done.
+    pub fn probes(&self) -> Vec<Request> {
+        let edits = self.setup.iter().chain(&self.timed);
+        let words: BTreeSet<Vec<u32>> = edits.flat_map(probes_of).map(|r| r.words()).collect();
+        words.iter().filter_map(|words| Request::decode(words)).collect()
+    }
+
     /// The setup with its keys rising, for stores whose state does not depend on the order of
     /// arrival: nothing has to move then.
     pub fn sorted_setup(&self) -> Vec<Request> {
         let mut setup = self.setup.clone();
         setup.sort_by_key(|request| request.words()[1]);
         setup
+    }
+}
+
+/// What an edit may have changed, just above its index.
+fn probes_of(request: &Request) -> Vec<Request> {
+    let words = request.words();
+    let (kind, key) = (request.kind(), words[1]);
+    let above = kind.index(&words).map_or(0, |index| index + 1);
+    match kind {
+        Kind::Fetch | Kind::GroupFetch | Kind::GroupSize | Kind::LastCommitted => vec![],
+        Kind::Base
+        | Kind::Write
+        | Kind::Delta
+        | Kind::Estimate
+        | Kind::Remove
+        | Kind::Materialise => vec![Request::fetch(key, above)],
+        _ => {
+            let tags = (0..64).map(|tag| Request::group_fetch(key, tag, above));
+            tags.chain([Request::last_committed(key)]).collect()
+        }
     }
 }

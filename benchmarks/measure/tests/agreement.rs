@@ -7,6 +7,7 @@ use measure::{
     scenario::Scenario,
     Contestant,
 };
+use request::{Kind, Request};
 use std::time::Duration;
 
 /// The inner call, with one word of one answer changed, or the last answer left out.
@@ -24,8 +25,8 @@ impl Contestant for Wrong {
         self.inner.take(scenario);
     }
 
-    fn answers(&mut self) -> Vec<Vec<u32>> {
-        let mut answers = self.inner.answers();
+    fn answers(&mut self, requests: &[Request]) -> Vec<Vec<u32>> {
+        let mut answers = self.inner.answers(requests);
         (self.damage)(&mut answers);
         answers
     }
@@ -61,6 +62,50 @@ fn a_word_of_an_answer() {
 #[should_panic(expected = "left == right")]
 fn an_answer_less() {
     measure_against(|answers| drop(answers.pop()));
+}
+
+/// Answers every rewrite and does none: its answers are right, what it leaves is not.
+#[derive(Default)]
+struct Idle(Inner);
+
+impl Contestant for Idle {
+    fn name(&self) -> &'static str {
+        "idle"
+    }
+
+    fn take(&mut self, scenario: &Scenario) {
+        self.0.take(scenario);
+    }
+
+    fn answers(&mut self, requests: &[Request]) -> Vec<Vec<u32>> {
+        let idle = |request: &&Request| matches!(request.kind(), Kind::Write | Kind::GroupWrite);
+        let done = requests.iter().filter(idle).map(|_| vec![0]);
+        let others: Vec<Request> = requests.iter().filter(|r| !idle(r)).cloned().collect();
+        done.chain(self.0.answers(&others)).collect()
+    }
+
+    fn round(&mut self) -> (Duration, u64) {
+        self.0.round()
+    }
+}
+
+fn idle_at(row: &str) {
+    let scenario = rows::all(32).into_iter().find(|scenario| scenario.row == row);
+    let mut contestants: Vec<Box<dyn Contestant>> =
+        vec![Box::<Inner>::default(), Box::<Idle>::default()];
+    pass(&scenario.expect("a row of this name"), &mut contestants);
+}
+
+#[test]
+#[should_panic(expected = "(fetch key")]
+fn a_rewrite_not_done() {
+    idle_at("rewrite");
+}
+
+#[test]
+#[should_panic(expected = "(group fetch key")]
+fn a_group_rewrite_not_done() {
+    idle_at("group rewrite");
 }
 
 /// The library's three ways agree on every row of the small stores; the program itself compares

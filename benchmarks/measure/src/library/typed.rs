@@ -6,6 +6,7 @@ use super::{
 };
 use crate::{clock, contestant::Contestant, scenario::Scenario};
 use proved_mvhashmap::MVHashMap;
+use request::Request;
 use std::{hint::black_box, time::Duration};
 
 #[derive(Default)]
@@ -57,11 +58,11 @@ impl Contestant for Typed {
         self.timed = scenario.timed.iter().map(Call::of).collect();
     }
 
-    fn answers(&mut self) -> Vec<Vec<u32>> {
+    fn answers(&mut self, requests: &[Request]) -> Vec<Vec<u32>> {
         let map = self.start();
         let mut answers = Answers::default();
-        for call in &self.timed {
-            ask(&map, call, &mut answers);
+        for request in requests {
+            ask(&map, &Call::of(request), &mut answers);
         }
         answers.0
     }

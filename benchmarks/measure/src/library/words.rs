@@ -55,9 +55,9 @@ impl Contestant for Inner {
         self.list = List::of(&scenario.timed);
     }
 
-    fn answers(&mut self) -> Vec<Vec<u32>> {
+    fn answers(&mut self, requests: &[Request]) -> Vec<Vec<u32>> {
         self.restore();
-        self.list.answers(|request, answer| self.map.request_mut(request, answer))
+        List::of(requests).answers(|request, answer| self.map.request_mut(request, answer))
     }
 
     fn round(&mut self) -> (Duration, u64) {
@@ -90,10 +90,10 @@ impl Contestant for Open {
         self.list = List::of(&scenario.timed);
     }
 
-    fn answers(&mut self) -> Vec<Vec<u32>> {
+    fn answers(&mut self, requests: &[Request]) -> Vec<Vec<u32>> {
         self.restore();
         let Stores { data, group } = &mut self.stores;
-        self.list.answers(|request, answer| call(request, data, group, answer))
+        List::of(requests).answers(|request, answer| call(request, data, group, answer))
     }
 
     fn round(&mut self) -> (Duration, u64) {
