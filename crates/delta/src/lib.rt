@@ -132,12 +132,8 @@ impl DeltaOp {
         ) else {
             return Merged::Apart;
         };
-        let Change::To(sum, below) = signed::add_signed(
-            previous_update,
-            minus,
-            update,
-            self.sign != 0,
-        ) else {
+        let own = self.sign != 0;
+        let Change::To(sum, below) = signed::add_signed(previous_update, minus, update, own) else {
             return Merged::Apart;
         };
         let sign = below as u64;

@@ -1,4 +1,5 @@
 // The walk of `VersionedValue::read` down the entries of a key.
+use crate::layout;
 use delta::Accumulator;
 use delta::Applied;
 use number::Number;
@@ -92,8 +93,8 @@ fn at_write(s: &[u32], j: usize, at: ShiftedTxnIndex, acc: Accumulator) -> MVDat
         (atWrite (exactly acc) (wordOf at) (getD (now (s .entry)) (slotWidth * j + 6) 0)
         (valueAt (slotWidth * j + 7) (now (s .entry)))) ⌝ }
 {
-    let incarnation = word(s, j, 6);
-    let v = ValueWithLayout::read(s, 32 * j + 7);
+    let incarnation = word(s, j, layout::INCARNATION);
+    let v = ValueWithLayout::read(s, 32 * j + layout::VALUE);
     match acc {
         Accumulator::Empty => MVDataOutput::Versioned(at, incarnation, v),
         Accumulator::Gathered(_) => below_deltas(acc, at, incarnation, v),
@@ -101,23 +102,26 @@ fn at_write(s: &[u32], j: usize, at: ShiftedTxnIndex, acc: Accumulator) -> MVDat
     }
 }
 
-// What a reader meets first before position i: 0 a write, 1 a delta without a shortcut, 2 one with it, each of the key and done; else 3.
+// No form: no entry of the key is left, or it is an estimate.
+const NO_FORM: u32 = 3;
+
+// The form of the entry before position i, which a reader meets first, if it has the key and is done.
 fn form_at(s: &[u32], key: u32, i: usize) -> u32
     requires store { ⌜ dataValid (now s) ≡ true ⌝ }
     requires inside { ⌜ i ≤ length (entriesIn (now s)) ⌝ }
     ensures form { λ r. ⌜ r ≡ formMet (downAt key i (entriesIn (now (s .entry)))) ⌝ }
 {
     if i == 0 {
-        return 3;
+        return NO_FORM;
     }
     let j = i - 1;
-    if word(s, j, 1) != key {
-        return 3;
+    if word(s, j, layout::KEY) != key {
+        return NO_FORM;
     }
-    if word(s, j, 5) == 1 {
-        return 3;
+    if word(s, j, layout::FLAG) == 1 {
+        return NO_FORM;
     }
-    word(s, j, 4)
+    word(s, j, layout::FORM)
 }
 
 // What the walk finds where it stops: at the entry before position i, or with none of the key left.
@@ -133,18 +137,18 @@ fn stop(s: &[u32], key: u32, i: usize, acc: Accumulator) -> MVDataOutput
         return at_end(acc);
     }
     let j = i - 1;
-    if word(s, j, 1) != key {
+    if word(s, j, layout::KEY) != key {
         return at_end(acc);
     }
-    let at = ShiftedTxnIndex::from_word(word(s, j, 2));
-    let flag = word(s, j, 5);
+    let at = ShiftedTxnIndex::from_word(word(s, j, layout::PLACE));
+    let flag = word(s, j, layout::FLAG);
     if flag == 1 {
         return dependency(at);
     }
-    if word(s, j, 4) == 0 {
+    if word(s, j, layout::FORM) == layout::WRITE {
         return at_write(s, j, at, acc);
     }
-    onto(acc, number::words::read(s, 32 * j + 23))
+    onto(acc, number::words::read(s, 32 * j + layout::SHORTCUT))
 }
 
 // The walk from the entry before position i down, while the key is the same: the shifted index falls at each call.
@@ -155,11 +159,11 @@ pub fn walk(s: &[u32], key: u32, i: usize, acc: Accumulator) -> MVDataOutput
     requires valid { ⌜ validSoFar (exactly acc) ≡ true ⌝ }
     ensures found { λ r. ⌜ r ≡ outputOf (walk (exactly acc) (downAt key i (entriesIn (now (s .entry))))) ⌝ }
 {
-    if form_at(s, key, i) != 1 {
+    if form_at(s, key, i) != layout::DELTA_ALONE {
         return stop(s, key, i, acc);
     }
     let j = i - 1;
-    let previous = delta::words::read(s, 32 * j + 6);
+    let previous = delta::words::read(s, 32 * j + layout::DELTA);
     let next = acc.accumulate(previous);
     walk(s, key, j, next)
 }
@@ -170,10 +174,10 @@ pub fn read_from(s: &[u32], key: u32, i: usize) -> MVDataOutput
     requires inside { ⌜ i ≤ length (entriesIn (now s)) ⌝ }
     ensures found { λ r. ⌜ r ≡ outputOf (readOf (downAt key i (entriesIn (now (s .entry))))) ⌝ }
 {
-    if form_at(s, key, i) != 0 {
+    if form_at(s, key, i) != layout::WRITE {
         return walk(s, key, i, Accumulator::Empty);
     }
     let j = i - 1;
-    let at = ShiftedTxnIndex::from_word(word(s, j, 2));
+    let at = ShiftedTxnIndex::from_word(word(s, j, layout::PLACE));
     at_write(s, j, at, Accumulator::Empty)
 }
