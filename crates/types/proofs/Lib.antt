@@ -1,4 +1,6 @@
-pub mod Shifted
-pub mod Stored
-pub mod Values
-pub mod Answers
+pub mod RefusalLaws
+pub mod UnitLaws
+pub mod FlagLaws
+pub mod IndexLaws
+pub mod ValueLaws
+pub mod AnswersTold

@@ -1,6 +1,7 @@
-pub mod Response
+pub mod Refusal
+pub mod Units
 pub mod Index
 pub mod Flag
-pub mod WriteOpKind
 pub mod Value
 pub mod ValueWithLayout
+pub mod Response

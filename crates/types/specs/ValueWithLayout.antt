@@ -14,8 +14,8 @@ use Rattle.types.specs.declared.value.BytesLen.the-variants.{Length, NoB
 use Rattle.types.specs.declared.value.AsU128.{AsU128}
 use Rattle.types.specs.declared.value.AsU128.the-variants.{Deleted, Value, NotANumber}
 
-unfoldable pub valueOf : List ℕ → ValueWithLayout
-valueOf ws =
+unfoldable pub valueFrom : List ℕ → ValueWithLayout
+valueFrom ws =
     record { head = getD ws 0 0; layout = getD ws 1 0; handle = getD ws 2 0; number = numberOf (numberIn ws) }
 
 unfoldable pub wordsOf : ValueWithLayout → List ℕ

@@ -1,6 +1,6 @@
 // The flag of an entry: done, or an estimate, which a read waits for.
 ghost use mathlib.Core.Path.{_≡_};
-ghost use Rattle.types.specs.Flag.{flagOf, flagWord};
+ghost use Rattle.types.specs.Flag.{flagWord};
 
 pub enum Flag {
     Done,
@@ -9,15 +9,6 @@ pub enum Flag {
 
 impl Flag {
     // The stores keep a flag as a word.
-    pub fn from_word(word: u32) -> Flag
-        ensures stored { λ r. ⌜ r ≡ flagOf word ⌝ }
-    {
-        if word == 0 {
-            return Flag::Done;
-        }
-        Flag::Estimate
-    }
-
     pub fn word(self) -> u32
         ensures stored { λ r. ⌜ r ≡ flagWord self ⌝ }
     {

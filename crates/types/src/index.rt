@@ -1,8 +1,7 @@
 // Transaction indexes, and the shifted indexes by which the stores order what is written.
 ghost use mathlib.Core.Path.{_≡_};
 ghost use Prim.Native.Nat.{_<_};
-ghost use lib.Dec.{eqb, leb, ltb};
-ghost use Rattle.types.specs.Index.{shift, shiftedOf, wordOf, indexOf};
+ghost use Rattle.types.specs.Index.{shift, indexBound, shiftedOf, wordOf, indexOf};
 
 pub type TxnIndex = u32;
 
@@ -20,7 +19,7 @@ pub enum IndexOrStorage {
 
 impl ShiftedTxnIndex {
     pub fn new(real_idx: TxnIndex) -> Self
-        requires served { ⌜ «real_idx» < 4294967295 ⌝ }
+        requires served { ⌜ «real_idx» < indexBound ⌝ }
         ensures shifted { λ r. ⌜ r ≡ shiftedOf (shift «real_idx») ⌝ }
     {
         ShiftedTxnIndex(real_idx + 1)
@@ -53,23 +52,5 @@ impl ShiftedTxnIndex {
         ensures stored { λ r. ⌜ r ≡ wordOf self ⌝ }
     {
         self.0
-    }
-
-    pub fn lt(self, other: Self) -> bool
-        ensures lower { λ r. ⌜ r ≡ ltb (wordOf self) (wordOf other) ⌝ }
-    {
-        self.0 < other.0
-    }
-
-    pub fn le(self, other: Self) -> bool
-        ensures not_higher { λ r. ⌜ r ≡ leb (wordOf self) (wordOf other) ⌝ }
-    {
-        self.0 <= other.0
-    }
-
-    pub fn eq(self, other: Self) -> bool
-        ensures same { λ r. ⌜ r ≡ eqb (wordOf self) (wordOf other) ⌝ }
-    {
-        self.0 == other.0
     }
 }

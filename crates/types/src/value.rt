@@ -1,5 +1,4 @@
 // A value with its layout, and the words that it is kept in.
-use super::kind::WriteOpKind;
 use number::Number;
 use number::words;
 ghost use mathlib.Core.Path.{_≡_};
@@ -9,8 +8,7 @@ ghost use lib.Dec.{eqb};
 ghost use lib.ListN.{length};
 ghost use lib.Seq.{sets};
 ghost use Rattle.types.specs.Value.{valueWidth, valueAt, writeOpKind, isCreation, isDeletion, isExchanged, byteLength, layoutOf, hasNumber, numberIn, sameBytes, valueOk};
-ghost use Rattle.types.specs.WriteOpKind.{kindOf};
-ghost use Rattle.types.specs.ValueWithLayout.{valueOf, wordsOf, bytesLenOf, asU128Of};
+ghost use Rattle.types.specs.ValueWithLayout.{valueFrom, wordsOf, bytesLenOf, asU128Of};
 
 // The words of a value: `valueWidth`.
 pub const VALUE_WIDTH: usize = 7;
@@ -45,7 +43,7 @@ pub enum AsU128 {
 impl ValueWithLayout {
     pub fn read(s: &[u32], at: usize) -> ValueWithLayout
         requires inside { ⌜ at + valueWidth ≤ length (now s) ⌝ }
-        ensures value { λ r. ⌜ r ≡ valueOf (valueAt at (now (s .entry))) ⌝ }
+        ensures value { λ r. ⌜ r ≡ valueFrom (valueAt at (now (s .entry))) ⌝ }
     {
         let head = s[at];
         let layout = s[at + 1];
@@ -75,12 +73,6 @@ impl ValueWithLayout {
         ensures bits { λ r. ⌜ r ≡ writeOpKind (wordsOf self) ⌝ }
     {
         self.head >> 30
-    }
-
-    pub fn write_op_kind(self) -> WriteOpKind
-        ensures kind { λ r. ⌜ r ≡ kindOf (writeOpKind (wordsOf self)) ⌝ }
-    {
-        WriteOpKind::from_bits(self.kind_bits())
     }
 
     pub fn is_creation(self) -> bool

@@ -2,7 +2,7 @@ use borrow.Author.Needs.{needs}
 use mathlib.Core.Path.{ap, _∙_}
 use Rattle.types.specs.Value.{valueOk}
 use Rattle.types.specs.ValueWithLayout.{wordsOf}
-use Rattle.types.proofs.Values.{words-read}
+use Rattle.types.proofs.ValueLaws.{words-read}
 use Rattle.types.proofs.value.value_ok.Statement.{statement}
 use Rattle.types.proofs.value.value_ok.Tie as tie
 

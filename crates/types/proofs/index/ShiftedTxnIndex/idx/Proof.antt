@@ -1,5 +1,5 @@
 use borrow.Author.Needs.{needs}
-use Rattle.types.proofs.Shifted.{index-pos, index-zero}
+use Rattle.types.proofs.IndexLaws.{index-pos, index-zero}
 use Rattle.types.proofs.index.ShiftedTxnIndex.idx.Statement.{statement}
 use Rattle.types.proofs.index.ShiftedTxnIndex.idx.Tie as tie
 

@@ -1,6 +1,6 @@
 use borrow.Author.Needs.{needs}
 use mathlib.Core.Path.{sym, _∙_}
-use Rattle.types.proofs.Values.{u128-deleted, u128-value, u128-none, number-field}
+use Rattle.types.proofs.ValueLaws.{u128-deleted, u128-value, u128-none, number-field}
 use Rattle.types.proofs.value.ValueWithLayout.as_u128.Statement.{statement}
 use Rattle.types.proofs.value.ValueWithLayout.as_u128.Tie as tie
 

@@ -1,4 +1,4 @@
-use Rattle.types.proofs.Values.{length-field}
+use Rattle.types.proofs.ValueLaws.{length-field}
 use Rattle.types.proofs.value.ValueWithLayout.byte_length.Statement.{statement}
 use Rattle.types.proofs.value.ValueWithLayout.byte_length.Tie as tie
 

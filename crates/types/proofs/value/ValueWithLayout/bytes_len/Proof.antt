@@ -1,6 +1,6 @@
 use borrow.Author.Needs.{needs}
 use mathlib.Core.Path.{sym, _∙_}
-use Rattle.types.proofs.Values.{bytes-none, bytes-some}
+use Rattle.types.proofs.ValueLaws.{bytes-none, bytes-some}
 use Rattle.types.proofs.value.ValueWithLayout.bytes_len.Statement.{statement}
 use Rattle.types.proofs.value.ValueWithLayout.bytes_len.Tie as tie
 

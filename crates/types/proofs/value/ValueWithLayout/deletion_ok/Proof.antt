@@ -1,6 +1,6 @@
 use borrow.Author.Needs.{needs}
 use mathlib.Core.Path.{sym, _∙_}
-use Rattle.types.proofs.Values.{deletion-length, deletion-not}
+use Rattle.types.proofs.ValueLaws.{deletion-length, deletion-not}
 use Rattle.types.proofs.value.ValueWithLayout.deletion_ok.Statement.{statement}
 use Rattle.types.proofs.value.ValueWithLayout.deletion_ok.Tie as tie
 

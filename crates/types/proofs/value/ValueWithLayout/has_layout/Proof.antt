@@ -2,7 +2,7 @@ use mathlib.Core.Path.{ap}
 use mathlib.Core.Bool.{not}
 use Prim.Native.Nat.{ℕ}
 use lib.Dec.{eqb}
-use Rattle.types.proofs.Values.{layout-field}
+use Rattle.types.proofs.ValueLaws.{layout-field}
 use Rattle.types.proofs.value.ValueWithLayout.has_layout.Statement.{statement}
 use Rattle.types.proofs.value.ValueWithLayout.has_layout.Tie as tie
 

@@ -1,6 +1,6 @@
 use borrow.Author.Needs.{needs}
 use mathlib.Core.Path.{sym, _∙_}
-use Rattle.types.proofs.Values.{number-of-deletion, number-by-length}
+use Rattle.types.proofs.ValueLaws.{number-of-deletion, number-by-length}
 use Rattle.types.proofs.value.ValueWithLayout.has_number.Statement.{statement}
 use Rattle.types.proofs.value.ValueWithLayout.has_number.Tie as tie
 

@@ -1,5 +1,5 @@
 use borrow.Author.Needs.{needs}
-use Rattle.types.proofs.Values.{is-creation}
+use Rattle.types.proofs.ValueLaws.{is-creation}
 use Rattle.types.proofs.value.ValueWithLayout.is_creation.Statement.{statement}
 use Rattle.types.proofs.value.ValueWithLayout.is_creation.Tie as tie
 

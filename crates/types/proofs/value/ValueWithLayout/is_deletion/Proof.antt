@@ -1,5 +1,5 @@
 use borrow.Author.Needs.{needs}
-use Rattle.types.proofs.Values.{is-deletion}
+use Rattle.types.proofs.ValueLaws.{is-deletion}
 use Rattle.types.proofs.value.ValueWithLayout.is_deletion.Statement.{statement}
 use Rattle.types.proofs.value.ValueWithLayout.is_deletion.Tie as tie
 

@@ -1,4 +1,4 @@
-use Rattle.types.proofs.Values.{exchanged-field}
+use Rattle.types.proofs.ValueLaws.{exchanged-field}
 use Rattle.types.proofs.value.ValueWithLayout.is_exchanged.Statement.{statement}
 use Rattle.types.proofs.value.ValueWithLayout.is_exchanged.Tie as tie
 

@@ -1,4 +1,4 @@
-use Rattle.types.proofs.Values.{kind-field}
+use Rattle.types.proofs.ValueLaws.{kind-field}
 use Rattle.types.proofs.value.ValueWithLayout.kind_bits.Statement.{statement}
 use Rattle.types.proofs.value.ValueWithLayout.kind_bits.Tie as tie
 

@@ -1,6 +1,6 @@
 use borrow.Author.Needs.{needs}
 use mathlib.Core.Path.{sym, _∙_}
-use Rattle.types.proofs.Values.{layout-exchanged, layout-raw}
+use Rattle.types.proofs.ValueLaws.{layout-exchanged, layout-raw}
 use Rattle.types.proofs.value.ValueWithLayout.layout_ok.Statement.{statement}
 use Rattle.types.proofs.value.ValueWithLayout.layout_ok.Tie as tie
 

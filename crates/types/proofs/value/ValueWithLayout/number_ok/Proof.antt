@@ -1,6 +1,6 @@
 use borrow.Author.Needs.{needs}
 use mathlib.Core.Path.{sym, _∙_}
-use Rattle.types.proofs.Values.{number-there, number-zero, words-number}
+use Rattle.types.proofs.ValueLaws.{number-there, number-zero, words-number}
 use Rattle.types.proofs.value.ValueWithLayout.number_ok.Statement.{statement}
 use Rattle.types.proofs.value.ValueWithLayout.number_ok.Tie as tie
 

@@ -1,5 +1,5 @@
 use borrow.Author.Needs.{needs}
-use Rattle.types.proofs.Values.{ok-kind, ok-length, ok-layout, ok-deletion, ok-number}
+use Rattle.types.proofs.ValueLaws.{ok-kind, ok-length, ok-layout, ok-deletion, ok-number}
 use Rattle.types.proofs.value.ValueWithLayout.ok.Statement.{statement}
 use Rattle.types.proofs.value.ValueWithLayout.ok.Tie as tie
 
@@ -29,8 +29,10 @@ deletion-ok-requires c κs = search needs
 
 returns-4 : tie.Need-returns-4
 returns-4 c =
-    ok-deletion _ _ (c .before .before .before .before .before .before .before .kind-bits .ensures)
-    (c .before .before .before .before .before .before .if1 .left) _ (c .before .before .before .before .before .byte-length .ensures)
+    let at-kind-bits = c .before .before .before .before .before .before .before in
+    let at-if1 = c .before .before .before .before .before .before in
+    ok-deletion _ _ (at-kind-bits .kind-bits .ensures)
+    (at-if1 .if1 .left) _ (c .before .before .before .before .before .byte-length .ensures)
     (c .before .before .before .before .if2 .left) _ (c .before .before .before .layout-ok .ensures) (c .before .before .if3 .left) _
     (c .before .deletion-ok .ensures) (c .if4 .taken)
 
@@ -39,9 +41,12 @@ number-ok-requires c κs = search needs
 
 returns-5 : tie.Need-returns-5
 returns-5 c =
-    ok-number _ _ (c .before .before .before .before .before .before .before .before .kind-bits .ensures)
-    (c .before .before .before .before .before .before .before .if1 .left) _
-    (c .before .before .before .before .before .before .byte-length .ensures) (c .before .before .before .before .before .if2 .left) _
+    let at-kind-bits = c .before .before .before .before .before .before .before .before in
+    let at-if1 = c .before .before .before .before .before .before .before in
+    let at-byte-length = c .before .before .before .before .before .before in
+    ok-number _ _ (at-kind-bits .kind-bits .ensures)
+    (at-if1 .if1 .left) _
+    (at-byte-length .byte-length .ensures) (c .before .before .before .before .before .if2 .left) _
     (c .before .before .before .before .layout-ok .ensures) (c .before .before .before .if3 .left) _ (c .before .before .deletion-ok .ensures)
     (c .before .if4 .left) _ (c .number-ok .ensures)
 

@@ -1,5 +1,5 @@
 use borrow.Author.Needs.{needs}
-use Rattle.types.proofs.Values.{value-read}
+use Rattle.types.proofs.ValueLaws.{value-read}
 use Rattle.types.proofs.value.ValueWithLayout.read.Statement.{statement}
 use Rattle.types.proofs.value.ValueWithLayout.read.Tie as tie
 

@@ -2,7 +2,7 @@
 -- Assumes nothing.
 use mathlib.Core.Path.{sym, _∙_}
 use borrow.Author.Needs.{needs}
-use Rattle.types.proofs.Values.{bytes-same}
+use Rattle.types.proofs.ValueLaws.{bytes-same}
 use Rattle.types.proofs.value.ValueWithLayout.same_bytes.Statement.{statement}
 use Rattle.types.proofs.value.ValueWithLayout.same_bytes.Tie as tie
 
@@ -39,7 +39,8 @@ enum-told-4 c = search needs
 
 returns-3 : tie.Need-returns-3
 returns-3 c =
-    bytes-same _ _ _ _ (sym (c .before .before .before .n .given .1) ∙ c .before .before .before .before .before .before .bytes-len .ensures)
+    let at-bytes-len = c .before .before .before .before .before .before in
+    bytes-same _ _ _ _ (sym (c .before .before .before .n .given .1) ∙ at-bytes-len .bytes-len .ensures)
     (sym (c .enum-told4 .given .1) ∙ c .before .before .before .before .before .bytes-len2 .ensures)
 
 enum-known-m : tie.Need-enum-known-m
@@ -47,8 +48,10 @@ enum-known-m c = search needs
 
 returns-4 : tie.Need-returns-4
 returns-4 c =
-    bytes-same _ _ _ _ (sym (c .before .before .before .before .n .given .1) ∙ c .before .before .before .before .before .before .before .bytes-len .ensures)
-    (sym (c .before .m .given .1) ∙ c .before .before .before .before .before .before .bytes-len2 .ensures)
+    let at-bytes-len = c .before .before .before .before .before .before .before in
+    let at-bytes-len2 = c .before .before .before .before .before .before in
+    bytes-same _ _ _ _ (sym (c .before .before .before .before .n .given .1) ∙ at-bytes-len .bytes-len .ensures)
+    (sym (c .before .m .given .1) ∙ at-bytes-len2 .bytes-len2 .ensures)
 
 pub same-bytes-spec : {M : Type 1} → statement M
 same-bytes-spec =

@@ -2,7 +2,7 @@ use native.Mathlib.Omega.{arith}
 use borrow.Author.Needs.{needs}
 use mathlib.Core.Path.{_∙_}
 use lib.ListN.{length-set}
-use Rattle.types.proofs.Values.{value-write}
+use Rattle.types.proofs.ValueLaws.{value-write}
 use Rattle.types.proofs.value.ValueWithLayout.write.Statement.{statement}
 use Rattle.types.proofs.value.ValueWithLayout.write.Tie as tie
 

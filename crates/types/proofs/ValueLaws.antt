@@ -14,11 +14,11 @@ use Rattle.number.specs.declared.Number.{Number}
 use Rattle.number.specs.Number.{Halves, numberOf}
 use Rattle.number.specs.Number.{valueOf as numberValue}
 use Rattle.number.specs.Words.{AreWords, digits, valueOfWords}
-use Rattle.number.proofs.Digits.{length-digits, words-digits, digits-value, value-four, words-take, words-drop}
-use Rattle.number.proofs.Stores.{sets-part}
+use Rattle.number.proofs.Digits.{length-digits, digits-value, value-four, words-take, words-drop}
+use Rattle.number.proofs.SetRuns.{sets-part}
 use Rattle.number.proofs.Halves.{valueOf-numberOf, numberOf-valueOf, value-below}
 use Rattle.types.specs.Value.{valueWidth, valueAt, writeOpKind, isCreation, isDeletion, isExchanged, byteLength, layoutOf, numberWords, hasNumber, numberIn, bytesLen, sameLength, sameBytes, valueOk}
-use Rattle.types.specs.ValueWithLayout.{valueOf, wordsOf, lengthAnswer, bytesLenOf, asU128Of, Fits}
+use Rattle.types.specs.ValueWithLayout.{valueFrom, wordsOf, lengthAnswer, bytesLenOf, asU128Of}
 use Rattle.types.specs.declared.value.ValueWithLayout.{ValueWithLayout}
 use Rattle.types.specs.declared.value.BytesLen.{BytesLen}
 use Rattle.types.specs.declared.value.BytesLen.the-variants.{Length, NoBytes}
@@ -30,21 +30,14 @@ pub words-length : (v : ValueWithLayout) → length (wordsOf v) ≡ valueWidth
 unfolding wordsOf
 words-length v = rw (length-digits 4 (numberValue (v .number))) refl
 
-pub words-fit : (v : ValueWithLayout) → Fits v → AreWords (wordsOf v)
-unfolding wordsOf
-words-fit v f zero = f .head
-words-fit v f (suc zero) = f .layout
-words-fit v f (suc (suc zero)) = f .handle
-words-fit v f (suc (suc (suc i))) = words-digits 4 (numberValue (v .number)) i
-
 pub words-number : (v : ValueWithLayout) → Halves (v .number) → numberIn (wordsOf v) ≡ numberValue (v .number)
 unfolding wordsOf numberIn numberWords
 words-number v h =
     ap valueOfWords (take-all 4 (digits 4 (numberValue (v .number))) (omega (arith, length-digits 4 (numberValue (v .number)))))
     ∙ value-four (numberValue (v .number)) (value-below (v .number) h)
 
-pub value-words : (v : ValueWithLayout) → Halves (v .number) → valueOf (wordsOf v) ≡ v
-unfolding valueOf wordsOf
+pub value-words : (v : ValueWithLayout) → Halves (v .number) → valueFrom (wordsOf v) ≡ v
+unfolding valueFrom wordsOf
 value-words v h = λ i. record { head = v .head; layout = v .layout; handle = v .handle; number = number i }
   where
     number : numberOf (numberIn (wordsOf v)) ≡ v .number
@@ -73,8 +66,8 @@ unfolding valueAt
 getD-valueAt s at i h = getD-take valueWidth (drop at s) i 0 h ∙ getD-drop at s i 0
 
 -- Words of a value, and the struct that is read from them.
-pub words-value : (ws : List ℕ) → AreWords ws → length ws ≡ valueWidth → wordsOf (valueOf ws) ≡ ws
-unfolding wordsOf valueOf numberIn numberWords
+pub words-value : (ws : List ℕ) → AreWords ws → length ws ≡ valueWidth → wordsOf (valueFrom ws) ≡ ws
+unfolding wordsOf valueFrom numberIn numberWords
 words-value (a ∷ b ∷ c ∷ ws) g e =
     ap (λ (r : List ℕ). a ∷ b ∷ c ∷ r)
     (ap (digits 4) (valueOf-numberOf (valueOfWords (take 4 ws)) ∙ ap valueOfWords (take-all 4 ws (omega arith)))
@@ -87,18 +80,18 @@ words-value [] g e = absurd (omega arith)
 words-value (a ∷ []) g e = absurd (omega arith)
 words-value (a ∷ b ∷ []) g e = absurd (omega arith)
 
-pub words-read : (s : List ℕ) (at : ℕ) → AreWords s → at + valueWidth ≤ length s → wordsOf (valueOf (valueAt at s)) ≡ valueAt at s
+pub words-read : (s : List ℕ) (at : ℕ) → AreWords s → at + valueWidth ≤ length s → wordsOf (valueFrom (valueAt at s)) ≡ valueAt at s
 words-read s at g h = words-value (valueAt at s) (words-valueAt s at g) (length-valueAt s at h)
 
 -- What a caller that has read a value knows of its words.
-pub read-words : (s : List ℕ) (at : ℕ) (v : ValueWithLayout) → AreWords s → at + valueWidth ≤ length s → v ≡ valueOf (valueAt at s)
+pub read-words : (s : List ℕ) (at : ℕ) (v : ValueWithLayout) → AreWords s → at + valueWidth ≤ length s → v ≡ valueFrom (valueAt at s)
     → wordsOf v ≡ valueAt at s
 read-words s at v g h e = ap wordsOf e ∙ words-read s at g h
 
 pub value-read : (s : List ℕ) (at : ℕ) (number : Number) → number ≡ numberOf (valueOfWords (take 4 (drop (at + 3) s)))
     → _≡_ {A = ValueWithLayout} (record { head = getD s at 0; layout = getD s (at + 1) 0; handle = getD s (at + 2) 0; number = number })
-    (valueOf (valueAt at s))
-unfolding valueOf numberIn
+    (valueFrom (valueAt at s))
+unfolding valueFrom numberIn
 value-read s at number e =
     λ i. record { head = head i; layout = layout i; handle = handle i; number = num i }
   where

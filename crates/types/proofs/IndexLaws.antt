@@ -18,10 +18,6 @@ pub index-suc : (index : ℕ) → indexOf (suc index) ≡ Index index
 unfolding indexOf
 index-suc index = refl
 
-pub index-shift : (index : ℕ) → indexOf (shift index) ≡ Index index
-unfolding indexOf
-index-shift index = rw add-one refl
-
 pub index-zero : (word : ℕ) → word ≤ 0 → StorageVersion ≡ indexOf word
 unfolding indexOf
 index-zero zero h = refl
