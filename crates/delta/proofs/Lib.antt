@@ -1,9 +1,9 @@
-mod Cases
-pub mod Format
-pub mod Gain
-pub mod Merging
-pub mod Ops
-pub mod Places
-pub mod Runs
-pub mod Sums
-mod Walking
+mod DeltaCases
+pub mod DeltaFormat
+pub mod DeltaGains
+pub mod DeltaMerges
+pub mod DeltaOps
+pub mod DeltaPlaces
+pub mod DeltaRuns
+pub mod DeltaSums
+mod LentWalks

@@ -103,6 +103,10 @@ numberAt ws i = valueOfWords (take 4 (drop i ws))
 unfoldable pub minusZero : Bool → ℕ → Bool
 minusZero minus n = minus && eqb n 0
 
+-- "Delta, 17 words": four numbers of four words, and the sign
+abbrev pub deltaWidth : ℕ
+deltaWidth = 17
+
 -- what a sign says: 0 is plus, and whatever else stands there is read as minus
 abbrev pub isNegative : ℕ → Bool
 isNegative sign = not (eqb sign 0)
@@ -111,7 +115,7 @@ isNegative sign = not (eqb sign 0)
 unfoldable pub minusAt : List ℕ → Bool
 minusAt ws = isNegative (getD ws 16 0)
 
--- the delta that 17 words hold, whatever they are
+-- the delta that so many words hold, whatever they are
 unfoldable pub deltaAt : List ℕ → Delta
 deltaAt ws =
     record {
@@ -130,7 +134,7 @@ deltaOk ws =
 unfoldable pub signWord : ℤ → ℕ
 signWord u = cond (isMinus u) 1 0
 
--- the 17 words of a delta
+-- the words of a delta
 unfoldable pub deltaWords : Delta → List ℕ
 deltaWords d =
     digits 4 (d .limit) ++ digits 4 (d .high) ++ digits 4 (d .low) ++ digits 4 (natAbs (d .update)) ++ (signWord (d .update) ∷ [])

@@ -4,13 +4,15 @@ ghost use mathlib.Core.Path.{_≡_};
 ghost use Prim.Native.Nat.{_+_, _≤_};
 ghost use lib.ListN.{length, take, drop};
 ghost use lib.Seq.{sets};
-ghost use Rattle.delta.specs.Delta.{deltaOk, deltaWords, signWord};
+ghost use Rattle.delta.specs.Delta.{deltaWidth, deltaOk, deltaWords, signWord};
 ghost use Rattle.delta.specs.Op.{exact, opAt};
+
+pub const DELTA_WIDTH: usize = 17;
 
 // What the words at `at` hold, the sign as it stands.
 pub fn read(s: &[u32], at: usize) -> DeltaOp
-    requires fits { ⌜ at + 17 ≤ length (now s) ⌝ }
-    ensures value { λ r. ⌜ r ≡ opAt (take 17 (drop at (now (s .entry)))) ⌝ }
+    requires fits { ⌜ at + deltaWidth ≤ length (now s) ⌝ }
+    ensures value { λ r. ⌜ r ≡ opAt (take deltaWidth (drop at (now (s .entry)))) ⌝ }
 {
     let limit = number::words::read(s, at);
     let high = number::words::read(s, at + 4);
@@ -28,8 +30,8 @@ pub fn read(s: &[u32], at: usize) -> DeltaOp
 
 // Whether the words at `at` are a delta.
 pub fn is_delta(s: &[u32], at: usize) -> bool
-    requires fits { ⌜ at + 17 ≤ length (now s) ⌝ }
-    ensures checked { λ r. ⌜ r ≡ deltaOk (take 17 (drop at (now (s .entry)))) ⌝ }
+    requires fits { ⌜ at + deltaWidth ≤ length (now s) ⌝ }
+    ensures checked { λ r. ⌜ r ≡ deltaOk (take deltaWidth (drop at (now (s .entry)))) ⌝ }
 {
     let delta = read(s, at);
     delta.is_valid()
@@ -51,7 +53,7 @@ fn sign_of(delta: DeltaOp) -> u32
 
 // Puts a delta into the words at `at`; the other words stay.
 pub fn write(s: &mut [u32], at: usize, delta: DeltaOp)
-    requires fits { ⌜ at + 17 ≤ length (now s) ⌝ }
+    requires fits { ⌜ at + deltaWidth ≤ length (now s) ⌝ }
     ensures written { λ _. ⌜ now (s .exit) ≡ sets (now (s .entry)) at (deltaWords (exact delta)) ⌝ }
 {
     let limit = delta.limit;

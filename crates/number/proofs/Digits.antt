@@ -12,7 +12,7 @@ use lib.Seq.{sets, getD-drop, drop-cons, take-add, drop-drop, length-take-le}
 use Rattle.number.specs.declared.Number.{Number}
 use Rattle.number.specs.Number.{Halves, range, valueOf, numberOf}
 use Rattle.number.specs.Words.{digits, valueOfWords, AreWords}
-use Rattle.number.proofs.Stores.{sets-then}
+use Rattle.number.proofs.SetRuns.{sets-then}
 use Rattle.number.proofs.Halves.{numberOf-halves}
 
 -- ---- digits and their value

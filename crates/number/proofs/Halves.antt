@@ -3,7 +3,7 @@
 use mathlib.Core.Path.{_≡_, refl, sym, ap, _∙_}
 use mathlib.Core.Bool.{Bool, true, false, not, cond}
 use Prim.Native.Nat.{ℕ, _+_, _-_, _*_, _/_, _%_, _^_, _≤_, _<_, max}
-use native.Mathlib.Nat.{zero-add, mod-add-div', div-add-mod', mod-lt, mod-eq-of-lt, div-eq-of-lt, add-mul-mod-self-right, add-mul-div-right, div-lt-iff-lt-mul, max-eq-left, max-eq-right, le-of-lt, eq-of-mul-eq-mul-right}
+use native.Mathlib.Nat.{zero-add, mod-add-div', div-add-mod', mod-lt, mod-eq-of-lt, div-eq-of-lt, add-mul-mod-self-right, add-mul-div-right, max-eq-left, max-eq-right, le-of-lt, eq-of-mul-eq-mul-right}
 use native.Mathlib.Decide.{decLt, ℕ-discrete}
 use native.Mathlib.Omega.{arith}
 use lib.Dec.{ltb, leb, eqb, lit<}
@@ -22,11 +22,6 @@ use Rattle.number.proofs.AnyBase.{carry-small, borrow-small, borrow-wra
 pub valueOf-numberOf : (v : ℕ) → valueOf (numberOf v) ≡ v
 unfolding valueOf numberOf
 valueOf-numberOf v = mod-add-div' v (2 ^ 64)
-
-pub halves-numberOf : (v : ℕ) → v < range → Halves (numberOf v)
-unfolding numberOf range
-halves-numberOf v h =
-    record { low = mod-lt v (lit< tt); high = div-lt-iff-lt-mul {k = 2 ^ 64} {x = v} {y = 2 ^ 64} (lit< tt) .1 h }
 
 pub numberOf-halves : (lo hi : ℕ) → lo < 2 ^ 64 → _≡_ {A = Number} (numberOf (lo + hi * 2 ^ 64)) (record { lo = lo; hi = hi })
 unfolding numberOf

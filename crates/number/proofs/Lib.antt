@@ -1,4 +1,4 @@
 pub mod AnyBase
 pub mod Digits
 pub mod Halves
-pub mod Stores
+pub mod SetRuns

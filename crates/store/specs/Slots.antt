@@ -1,10 +1,11 @@
 -- A store in lent words: slots (01: units) of 32 words, those in use packed at the front in rising order, then zeros. Both stores are laid out so.
 -- 01: "A store of W words has W / 32 units, rounded down, at most 4,096; all zero is empty."
-use mathlib.Core.Bool.{Bool, true, false, cond, not, _&&_, _||_}
+use mathlib.Core.Bool.{Bool, true, false, not, _&&_, _||_}
 use mathlib.Core.List.{List, [], _∷_, _++_}
 use Prim.Native.Nat.{ℕ, zero, suc, _+_, _-_, _*_, _/_, min}
 use lib.Dec.{ltb, eqb}
 use lib.ListN.{length, getD, take, drop, replicate}
+use Rattle.lists.specs.Lists.{every, front}
 
 abbrev pub Slot : Type 0
 Slot = List ℕ
@@ -45,11 +46,6 @@ padded ws = ws ++ replicate (slotWidth - length ws) 0
 unfoldable pub isUsed : Slot → Bool
 isUsed u = not (eqb (getD u 0 0) 0)
 
--- The elements at the front that pass a test.
-unfoldable pub front : {A : Type 0} → (A → Bool) → List A → List A
-front p [] = []
-front p (x ∷ xs) = cond (p x) (x ∷ front p xs) []
-
 -- The slots in use at the front of a store.
 unfoldable pub held : List ℕ → List Slot
 held s = front isUsed (slots (slotsIn (length s)) s)
@@ -72,10 +68,6 @@ sameWords (x ∷ xs) (y ∷ ys) = eqb x y && sameWords xs ys
 -- A slot stands at the place that its first four words give.
 unfoldable pub isAt : List ℕ → Slot → Bool
 isAt k u = sameWords (take 4 u) k
-
-unfoldable pub every : {A : Type 0} → (A → Bool) → List A → Bool
-every p [] = true
-every p (x ∷ xs) = p x && every p xs
 
 -- Each slot stands before all later ones.
 unfoldable pub ordered : List Slot → Bool

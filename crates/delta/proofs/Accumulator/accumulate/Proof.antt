@@ -1,7 +1,7 @@
 -- `delta::Accumulator::accumulate` meets its contract.
 -- Assumes nothing.
 use borrow.Author.Needs.{needs}
-use Rattle.delta.proofs.Ops.{gathered-valid, validOp-valid, accumulated-empty, accumulated-joined, accumulated-apart, accumulated-failed}
+use Rattle.delta.proofs.DeltaOps.{gathered-valid, validOp-valid, accumulated-empty, accumulated-joined, accumulated-apart, accumulated-failed}
 use Rattle.delta.proofs.Accumulator.accumulate.Statement.{statement}
 use Rattle.delta.proofs.Accumulator.accumulate.Tie as tie
 

@@ -3,7 +3,7 @@
 use borrow.Author.Needs.{needs}
 use borrow.Author.Tests.{not-true, not-false}
 use mathlib.Core.Path.{sym, _∙_}
-use Rattle.delta.proofs.Runs.{record-good, record-bad}
+use Rattle.delta.proofs.DeltaRuns.{record-good, record-bad}
 use Rattle.delta.proofs.Accumulator.accumulate_record.Statement.{statement}
 use Rattle.delta.proofs.Accumulator.accumulate_record.Tie as tie
 

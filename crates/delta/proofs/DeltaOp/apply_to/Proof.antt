@@ -2,7 +2,7 @@
 -- Assumes nothing.
 use borrow.Author.Needs.{needs}
 use mathlib.Core.Path.{sym, _∙_}
-use Rattle.delta.proofs.Ops.{applied-low, applied-over, applied-high, applied-never, applied-value}
+use Rattle.delta.proofs.DeltaOps.{applied-low, applied-over, applied-high, applied-never, applied-value}
 use Rattle.delta.proofs.DeltaOp.apply_to.Statement.{statement}
 use Rattle.delta.proofs.DeltaOp.apply_to.Tie as tie
 
@@ -43,7 +43,13 @@ returns-4 : tie.Need-returns-4
 returns-4 c = applied-never _ _ _ (c .before .before .before .before .before .before .before .before .before .checked-add .ensures) _ (c .before .before .before .before .before .before .before .top .given .1) (sym (c .before .before .before .before .before .before .before .before .before .before .before .lt .ensures) ∙ c .before .before .before .before .before .before .before .before .before .before .if1 .left) (sym (c .before .before .before .before .before .lt2 .ensures) ∙ c .before .before .before .before .if2 .left) _ (c .before .before .before .before .before .before .before .before .before .before .before .before .before .before .before .before .pre) (search needs) (c .before .before .add-signed .ensures) (c .enum-told2 .given .1)
 
 returns-5 : tie.Need-returns-5
-returns-5 c = applied-value _ _ _ (c .before .before .before .before .before .before .before .before .before .before .checked-add .ensures) _ (c .before .before .before .before .before .before .before .before .top .given .1) (sym (c .before .before .before .before .before .before .before .before .before .before .before .before .lt .ensures) ∙ c .before .before .before .before .before .before .before .before .before .before .before .if1 .left) (sym (c .before .before .before .before .before .before .lt2 .ensures) ∙ c .before .before .before .before .before .if2 .left) _ _ _ (c .before .before .before .add-signed .ensures) (c .before .n .given .1)
+returns-5 c =
+    let at-lt = c .before .before .before .before .before .before .before .before .before .before .before .before in
+    let at-if1 = c .before .before .before .before .before .before .before .before .before .before .before in
+    let at-checked-add = c .before .before .before .before .before .before .before .before .before .before in
+    let at-top = c .before .before .before .before .before .before .before .before in
+    let at-lt2 = c .before .before .before .before .before .before in
+    applied-value _ _ _ (at-checked-add .checked-add .ensures) _ (at-top .top .given .1) (sym (at-lt .lt .ensures) ∙ at-if1 .if1 .left) (sym (at-lt2 .lt2 .ensures) ∙ c .before .before .before .before .before .if2 .left) _ _ _ (c .before .before .before .add-signed .ensures) (c .before .n .given .1)
 
 pub apply-to-spec : {M : Type 1} → statement M
 apply-to-spec =

@@ -2,7 +2,7 @@
 -- Assumes nothing.
 use borrow.Author.Needs.{needs}
 use Rattle.number.specs.Number.{Halves}
-use Rattle.delta.proofs.Ops.{merged-limits, merged-high, merged-low, merged-never, merged-joined}
+use Rattle.delta.proofs.DeltaOps.{merged-limits, merged-high, merged-low, merged-never, merged-joined}
 use Rattle.delta.proofs.DeltaOp.merge_with_previous_delta.Statement.{statement}
 use Rattle.delta.proofs.DeltaOp.merge_with_previous_delta.Tie as tie
 
@@ -49,13 +49,28 @@ enum-told-3 : tie.Need-enum-told-3
 enum-told-3 c = search needs
 
 returns-4 : tie.Need-returns-4
-returns-4 c = merged-never _ (c .before .before .before .before .before .before .before .before .before .before .before .before .before .before .before .before .before .before .before .before .before .before .before .args .previous) _ _ _ _ _ (c .before .before .before .before .before .before .before .before .before .before .before .before .before .before .before .before .before .before .before .before .eq .ensures) (c .before .before .before .before .before .before .before .before .before .before .before .before .before .before .before .before .before .before .before .if1 .left) (c .before .before .before .before .before .before .before .before .before .before .before .reached .ensures) (c .before .before .before .before .before .before .before .before .before .top .given .1) (c .before .before .before .before .before .before .before .reached2 .ensures) (c .before .before .before .before .before .bottom .given .1) _ (c .before .before .add-signed .ensures) (c .before .before .before .before .before .before .before .before .before .before .before .before .before .before .before .before .before .before .before .before .before .before .before .pre .0) (limit-halves (c .before .before .before .before .before .before .before .before .before .before .before .before .before .before .before .before .before .before .before .before .before .before .before)) (c .enum-told3 .given .1)
+returns-4 c =
+    let at-start = c .before .before .before .before .before .before .before .before .before .before .before .before .before .before .before .before .before .before .before .before .before .before .before in
+    let at-eq = c .before .before .before .before .before .before .before .before .before .before .before .before .before .before .before .before .before .before .before .before in
+    let at-if1 = c .before .before .before .before .before .before .before .before .before .before .before .before .before .before .before .before .before .before .before in
+    let at-reached = c .before .before .before .before .before .before .before .before .before .before .before in
+    let at-top = c .before .before .before .before .before .before .before .before .before in
+    let at-reached2 = c .before .before .before .before .before .before .before in
+    merged-never _ (at-start .args .previous) _ _ _ _ _ (at-eq .eq .ensures) (at-if1 .if1 .left) (at-reached .reached .ensures) (at-top .top .given .1) (at-reached2 .reached2 .ensures) (c .before .before .before .before .before .bottom .given .1) _ (c .before .before .add-signed .ensures) (at-start .pre .0) (limit-halves (at-start)) (c .enum-told3 .given .1)
 
 cast-sign : tie.Need-cast-sign
 cast-sign c = search needs
 
 returns-5 : tie.Need-returns-5
-returns-5 c = merged-joined _ _ _ _ _ _ _ (c .before .before .before .before .before .before .before .before .before .before .before .before .before .before .before .before .before .before .before .before .before .eq .ensures) (c .before .before .before .before .before .before .before .before .before .before .before .before .before .before .before .before .before .before .before .before .if1 .left) (c .before .before .before .before .before .before .before .before .before .before .before .before .reached .ensures) (c .before .before .before .before .before .before .before .before .before .before .top .given .1) (c .before .before .before .before .before .before .before .before .reached2 .ensures) (c .before .before .before .before .before .before .bottom .given .1) _ (c .before .before .before .add-signed .ensures) _ _ (limit-halves (c .before .before .before .before .before .before .before .before .before .before .before .before .before .before .before .before .before .before .before .before .before .before .before .before)) (c .before .sum .given .1)
+returns-5 c =
+    let at-here = c .before .before .before .before .before .before .before .before .before .before .before .before .before .before .before .before .before .before .before .before .before .before .before .before in
+    let at-eq = c .before .before .before .before .before .before .before .before .before .before .before .before .before .before .before .before .before .before .before .before .before in
+    let at-if1 = c .before .before .before .before .before .before .before .before .before .before .before .before .before .before .before .before .before .before .before .before in
+    let at-reached = c .before .before .before .before .before .before .before .before .before .before .before .before in
+    let at-top = c .before .before .before .before .before .before .before .before .before .before in
+    let at-reached2 = c .before .before .before .before .before .before .before .before in
+    let at-bottom = c .before .before .before .before .before .before in
+    merged-joined _ _ _ _ _ _ _ (at-eq .eq .ensures) (at-if1 .if1 .left) (at-reached .reached .ensures) (at-top .top .given .1) (at-reached2 .reached2 .ensures) (at-bottom .bottom .given .1) _ (c .before .before .before .add-signed .ensures) _ _ (limit-halves (at-here)) (c .before .sum .given .1)
 
 pub merge-with-previous-delta-spec : {M : Type 1} → statement M
 merge-with-previous-delta-spec =

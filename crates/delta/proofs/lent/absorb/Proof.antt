@@ -1,7 +1,7 @@
 -- `delta::lent::absorb` meets its contract.
 -- Assumes nothing.
 use borrow.Author.Needs.{needs}
-use Rattle.delta.proofs.Runs.{absorbed-joined, absorbed-apart}
+use Rattle.delta.proofs.DeltaRuns.{absorbed-joined, absorbed-apart}
 use Rattle.delta.proofs.lent.absorb.Statement.{statement}
 use Rattle.delta.proofs.lent.absorb.Tie as tie
 

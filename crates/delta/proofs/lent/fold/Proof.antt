@@ -53,7 +53,7 @@ use Rattle.delta.specs.declared.Accumulator.{Accumulator}
 use Rattle.delta.specs.declared.Accumulator.the-variants.{Empty}
 use Rattle.delta.specs.Delta.{validSoFar}
 use Rattle.delta.specs.Op.{opOf, exactly, accumulatorOf, accumulateOp, foldRecords}
-use Rattle.delta.proofs.Runs.{Folding, fold-starts, fold-again, fold-ends}
+use Rattle.delta.proofs.DeltaRuns.{Folding, fold-starts, fold-again, fold-ends}
 use Rattle.delta.proofs.DeltaOp as D
 use Rattle.delta.proofs.DeltaOp.Laws as D′
 use Rattle.delta.proofs.Accumulator as E

@@ -53,8 +53,8 @@ use denote.Exit.{yes}
 use Rattle.delta.specs.declared.DeltaOp.{DeltaOp}
 use Rattle.delta.specs.declared.Accumulator.{Accumulator}
 use Rattle.delta.specs.Op.{accumulatorOf, foldRecords}
-use Rattle.delta.proofs.Runs.{first-length, first-take}
-use Rattle.delta.proofs.Walking.{lies-in, lies-out, row-cut, row-join}
+use Rattle.delta.proofs.DeltaRuns.{first-length, first-take}
+use Rattle.delta.proofs.LentWalks.{lies-in, lies-out, row-cut, row-join}
 use Rattle.delta.proofs.DeltaOp as D
 use Rattle.delta.proofs.DeltaOp.Laws as D′
 use Rattle.delta.proofs.Accumulator as E

@@ -1,6 +1,6 @@
 -- `delta::lent::joined_if` meets its contract.
 -- Assumes nothing.
-use Rattle.delta.proofs.Runs.{merged-if, merged-unless}
+use Rattle.delta.proofs.DeltaRuns.{merged-if, merged-unless}
 use Rattle.delta.proofs.lent.joined_if.Statement.{statement}
 use Rattle.delta.proofs.lent.joined_if.Tie as tie
 

@@ -23,7 +23,6 @@ use types.Tokens.{lft-new, lft-end}
 use types.Run.{look, look-raw, init, forget, stop, from, load, addr, and-then, no-more, of-opd, assigns, land, returns, enter, alloc1, alloc0, params1, pass1, pass0, free1, free0}
 use types.SemTy.{Body}
 use sound.WpLaws.{FmC, fmOf, WpFn-mono}
-use denote.RattleType.{owns}
 use denote.Laws.{Is, shows}
 use denote.Memory.{mem, cellAt}
 use denote.Plain.{bool-makes}
@@ -46,8 +45,8 @@ use Rattle.delta.specs.declared.DeltaOp.{DeltaOp}
 use Rattle.delta.specs.declared.Merged.{Merged}
 use Rattle.delta.specs.Delta.{valid, merge}
 use Rattle.delta.specs.Op.{exact, mergedOf, keptOr, isJoined, mergedIf}
-use Rattle.delta.proofs.Runs.{mergedIf-kept}
-use Rattle.delta.proofs.Walking.{says-both, needs-both, lies-in, lies-out}
+use Rattle.delta.proofs.DeltaRuns.{mergedIf-kept}
+use Rattle.delta.proofs.LentWalks.{says-both, needs-both, lies-in, lies-out}
 use Rattle.delta.proofs.DeltaOp as D
 use Rattle.delta.proofs.DeltaOp.Laws as D′
 use Rattle.delta.proofs.Merged as R

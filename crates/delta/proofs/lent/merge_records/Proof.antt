@@ -3,8 +3,8 @@
 use borrow.Author.Needs.{needs}
 use borrow.Author.Tests.{not-true, not-false}
 use mathlib.Core.Path.{sym, _∙_}
-use Rattle.delta.proofs.Ops.{validOp-valid}
-use Rattle.delta.proofs.Runs.{newer-bad, previous-bad, both-good}
+use Rattle.delta.proofs.DeltaOps.{validOp-valid}
+use Rattle.delta.proofs.DeltaRuns.{newer-bad, previous-bad, both-good}
 use Rattle.delta.proofs.lent.merge_records.Statement.{statement}
 use Rattle.delta.proofs.lent.merge_records.Tie as tie
 

@@ -43,8 +43,8 @@ use Rattle.delta.specs.declared.Merged.{Merged}
 use Rattle.delta.specs.declared.lent.Absorbed.{Absorbed}
 use Rattle.delta.specs.Delta.{valid, merge}
 use Rattle.delta.specs.Op.{exact, mergedOf, keptOr, isJoined, absorbedOf}
-use Rattle.delta.proofs.Runs.{absorbed-delta, absorbed-ok}
-use Rattle.delta.proofs.Walking.{says-both, needs-both}
+use Rattle.delta.proofs.DeltaRuns.{absorbed-delta, absorbed-ok}
+use Rattle.delta.proofs.LentWalks.{says-both, needs-both}
 use Rattle.delta.proofs.DeltaOp as T
 use Rattle.delta.proofs.DeltaOp.Laws as T′
 use Rattle.delta.proofs.lent.Absorbed as B

@@ -2,7 +2,7 @@
 -- Assumes nothing.
 use borrow.Author.Needs.{needs}
 use mathlib.Core.Bool.{true, false}
-use Rattle.delta.proofs.Sums.{adds-same, adds-first, adds-second}
+use Rattle.delta.proofs.DeltaSums.{adds-same, adds-first, adds-second}
 use Rattle.delta.proofs.signed.add_signed.Statement.{statement}
 use Rattle.delta.proofs.signed.add_signed.Tie as tie
 

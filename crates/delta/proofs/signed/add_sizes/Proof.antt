@@ -2,7 +2,7 @@
 -- Assumes nothing.
 use borrow.Author.Needs.{needs}
 use mathlib.Core.Path.{sym, _∙_}
-use Rattle.delta.proofs.Sums.{sizes-over, sizes-zero, sizes-some}
+use Rattle.delta.proofs.DeltaSums.{sizes-over, sizes-zero, sizes-some}
 use Rattle.delta.proofs.signed.add_sizes.Statement.{statement}
 use Rattle.delta.proofs.signed.add_sizes.Tie as tie
 

@@ -1,7 +1,7 @@
 -- `delta::signed::reached` meets its contract.
 -- Assumes nothing.
 use borrow.Author.Needs.{needs}
-use Rattle.delta.proofs.Sums.{reached-earlier, reached-less, reached-beyond, reached-more}
+use Rattle.delta.proofs.DeltaSums.{reached-earlier, reached-less, reached-beyond, reached-more}
 use Rattle.delta.proofs.signed.reached.Statement.{statement}
 use Rattle.delta.proofs.signed.reached.Tie as tie
 
@@ -27,7 +27,9 @@ within-requires-2 : tie.Need-within-requires-2
 within-requires-2 c κs = search needs
 
 returns-2 : tie.Need-returns-2
-returns-2 c = reached-less _ _ _ _ _ _ _ _ _ (c .before .before .before .before .before .before .if1 .taken) (c .before .before .before .before .before .checked-sub .ensures) (c .before .before .before .n .given .1) (c .before .max .ensures) (c .within2 .ensures)
+returns-2 c =
+    let at-if1 = c .before .before .before .before .before .before in
+    reached-less _ _ _ _ _ _ _ _ _ (at-if1 .if1 .taken) (c .before .before .before .before .before .checked-sub .ensures) (c .before .before .before .n .given .1) (c .before .max .ensures) (c .within2 .ensures)
 
 checked-add-requires : tie.Need-checked-add-requires
 checked-add-requires c κs = search needs
@@ -48,7 +50,9 @@ within-requires-3 : tie.Need-within-requires-3
 within-requires-3 c κs = search needs
 
 returns-4 : tie.Need-returns-4
-returns-4 c = reached-more _ _ _ _ _ _ _ _ _ (c .before .before .before .before .before .before .if1 .left) (c .before .before .before .before .before .checked-add .ensures) (c .before .before .before .n2 .given .1) (c .before .max2 .ensures) (c .within3 .ensures)
+returns-4 c =
+    let at-if1 = c .before .before .before .before .before .before in
+    reached-more _ _ _ _ _ _ _ _ _ (at-if1 .if1 .left) (c .before .before .before .before .before .checked-add .ensures) (c .before .before .before .n2 .given .1) (c .before .max2 .ensures) (c .within3 .ensures)
 
 pub reached-spec : {M : Type 1} → statement M
 reached-spec =

@@ -1,7 +1,7 @@
 -- `delta::signed::take_size` meets its contract.
 -- Assumes nothing.
 use borrow.Author.Needs.{needs}
-use Rattle.delta.proofs.Sums.{takes-rest, takes-never, takes-more}
+use Rattle.delta.proofs.DeltaSums.{takes-rest, takes-never, takes-more}
 use Rattle.delta.proofs.signed.take_size.Statement.{statement}
 use Rattle.delta.proofs.signed.take_size.Tie as tie
 
@@ -30,7 +30,9 @@ returns-2 : tie.Need-returns-2
 returns-2 c = takes-never _ _ (search needs) (search needs) _ (c .before .before .before .before .before .checked-sub .ensures) _ (c .before .before .before .enum-told .given .1) (c .before .before .checked-sub2 .ensures) (c .enum-told2 .given .1)
 
 returns-3 : tie.Need-returns-3
-returns-3 c = takes-more _ _ (search needs) (search needs) _ (c .before .before .before .before .before .before .checked-sub .ensures) _ _ (c .before .before .before .before .enum-told .given .1) (c .before .before .before .checked-sub2 .ensures) (c .before .n2 .given .1)
+returns-3 c =
+    let at-checked-sub = c .before .before .before .before .before .before in
+    takes-more _ _ (search needs) (search needs) _ (at-checked-sub .checked-sub .ensures) _ _ (c .before .before .before .before .enum-told .given .1) (c .before .before .before .checked-sub2 .ensures) (c .before .n2 .given .1)
 
 pub take-size-spec : {M : Type 1} → statement M
 take-size-spec =

@@ -2,7 +2,7 @@
 -- Assumes nothing.
 use borrow.Author.Needs.{needs}
 use mathlib.Core.Path.{sym, _∙_}
-use Rattle.delta.proofs.Sums.{within-yes, within-no}
+use Rattle.delta.proofs.DeltaSums.{within-yes, within-no}
 use Rattle.delta.proofs.signed.within.Statement.{statement}
 use Rattle.delta.proofs.signed.within.Tie as tie
 

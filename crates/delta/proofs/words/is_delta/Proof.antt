@@ -1,7 +1,7 @@
 -- `delta::words::is_delta` meets its contract.
 -- Assumes nothing.
 use borrow.Author.Needs.{needs}
-use Rattle.delta.proofs.Places.{checked-op}
+use Rattle.delta.proofs.DeltaPlaces.{checked-op}
 use Rattle.delta.proofs.words.is_delta.Statement.{statement}
 use Rattle.delta.proofs.words.is_delta.Tie as tie
 

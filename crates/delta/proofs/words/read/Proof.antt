@@ -2,7 +2,7 @@
 -- Assumes nothing.
 use Prim.Native.Nat.{_+_}
 use borrow.Author.Needs.{needs, fits-under}
-use Rattle.delta.proofs.Places.{op-is}
+use Rattle.delta.proofs.DeltaPlaces.{op-is}
 use Rattle.delta.proofs.words.read.Statement.{statement}
 use Rattle.delta.proofs.words.read.Tie as tie
 
@@ -37,10 +37,14 @@ shared-slice-read-sign : tie.Need-shared-slice-read-sign
 shared-slice-read-sign c = search needs
 
 cast-sign : tie.Need-cast-sign
-cast-sign c = fits-under _ _ _ (c .shared-slice-known2 .given (c .before .before .before .before .before .before .args .at + 16) .fits) tt
+cast-sign c =
+    let at-start = c .before .before .before .before .before .before in
+    fits-under _ _ _ (c .shared-slice-known2 .given (at-start .args .at + 16) .fits) tt
 
 returns : tie.Need-returns
-returns c = op-is (c .before .before .before .before .before .before .args .s .now) (c .before .before .before .before .before .before .args .at) _ _ _ _ (c .before .before .before .before .read .ensures) (c .before .before .before .read2 .ensures) (c .before .before .read3 .ensures) (c .before .read4 .ensures)
+returns c =
+    let at-start = c .before .before .before .before .before .before in
+    op-is (at-start .args .s .now) (at-start .args .at) _ _ _ _ (c .before .before .before .before .read .ensures) (c .before .before .before .read2 .ensures) (c .before .before .read3 .ensures) (c .before .read4 .ensures)
 
 pub read-spec : {M : Type 1} → statement M
 read-spec =

@@ -2,8 +2,8 @@
 -- Assumes nothing.
 use borrow.Author.Needs.{needs}
 use mathlib.Core.Path.{sym, _∙_}
-use Rattle.delta.proofs.Format.{is-negative, is-plus}
-use Rattle.delta.proofs.Places.{sign-zero, sign-minus, sign-plus}
+use Rattle.delta.proofs.DeltaFormat.{is-negative, is-plus}
+use Rattle.delta.proofs.DeltaPlaces.{sign-zero, sign-minus, sign-plus}
 use Rattle.delta.proofs.words.sign_of.Statement.{statement}
 use Rattle.delta.proofs.words.sign_of.Tie as tie
 

@@ -3,7 +3,7 @@
 use native.Mathlib.Omega.{arith}
 use borrow.Author.Needs.{needs}
 use lib.ListN.{length-set}
-use Rattle.delta.proofs.Places.{delta-put}
+use Rattle.delta.proofs.DeltaPlaces.{delta-put}
 use Rattle.delta.proofs.words.write.Statement.{statement}
 use Rattle.delta.proofs.words.write.Tie as tie
 
@@ -45,7 +45,10 @@ same-length c = simp length-set (omega arith)
 
 returns : tie.Need-returns
 returns c =
-    delta-put _ _ _ _ _ _ _ _ (c .before .before .before .before .before .before .before .before .before .before .before .before .before .before .before .write .ensures) (c .before .before .before .before .before .before .before .before .before .before .before .write2 .ensures) (c .before .before .before .before .before .before .before .write3 .ensures) (c .before .before .before .write4 .ensures) (c .sign-of .ensures)
+    let at-write = c .before .before .before .before .before .before .before .before .before .before .before .before .before .before .before in
+    let at-write2 = c .before .before .before .before .before .before .before .before .before .before .before in
+    let at-write3 = c .before .before .before .before .before .before .before in
+    delta-put _ _ _ _ _ _ _ _ (at-write .write .ensures) (at-write2 .write2 .ensures) (at-write3 .write3 .ensures) (c .before .before .before .write4 .ensures) (c .sign-of .ensures)
 
 pub write-spec : {M : Type 1} → statement M
 write-spec =

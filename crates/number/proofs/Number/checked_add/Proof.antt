@@ -26,14 +26,19 @@ carry-requires-3 c κs = search needs
 
 add-over : tie.Need-add-over
 add-over c =
-    let a = c .before .before .before .before .before .before .args in
+    let at-start = c .before .before .before .before .before .before in
+    let a = at-start .args in
     omega (arith, c .before .carry2 .ensures, c .carry3 .ensures, carry-le (a .self .hi) (a .other .hi) (search needs) (search needs), carry-le (c .before .before .before .wrapping-add-u642 .result) (c .before .before .before .before .before .carry .result) (search needs) (search needs))
 
 returns : tie.Need-returns
-returns c = adds _ _ (search needs) (search needs) _ _ _ _ _ _ (c .before .before .before .before .before .before .carry .ensures) (c .before .before .before .before .before .wrapping-add-u64 .ensures) (c .before .before .before .before .wrapping-add-u642 .ensures) (c .before .before .before .wrapping-add-u643 .ensures) (c .before .before .carry2 .ensures) (c .before .carry3 .ensures) (c .if1 .taken)
+returns c =
+    let at-carry = c .before .before .before .before .before .before in
+    adds _ _ (search needs) (search needs) _ _ _ _ _ _ (at-carry .carry .ensures) (c .before .before .before .before .before .wrapping-add-u64 .ensures) (c .before .before .before .before .wrapping-add-u642 .ensures) (c .before .before .before .wrapping-add-u643 .ensures) (c .before .before .carry2 .ensures) (c .before .carry3 .ensures) (c .if1 .taken)
 
 returns-2 : tie.Need-returns-2
-returns-2 c = adds-over _ _ (search needs) (search needs) _ _ _ _ _ _ (c .before .before .before .before .before .before .carry .ensures) (c .before .before .before .before .before .wrapping-add-u64 .ensures) (c .before .before .before .before .wrapping-add-u642 .ensures) (c .before .before .before .wrapping-add-u643 .ensures) (c .before .before .carry2 .ensures) (c .before .carry3 .ensures) (c .if1 .left)
+returns-2 c =
+    let at-carry = c .before .before .before .before .before .before in
+    adds-over _ _ (search needs) (search needs) _ _ _ _ _ _ (at-carry .carry .ensures) (c .before .before .before .before .before .wrapping-add-u64 .ensures) (c .before .before .before .before .wrapping-add-u642 .ensures) (c .before .before .before .wrapping-add-u643 .ensures) (c .before .before .carry2 .ensures) (c .before .carry3 .ensures) (c .if1 .left)
 
 pub checked-add-spec : {M : Type 1} → statement M
 checked-add-spec =

@@ -26,14 +26,19 @@ borrow-requires-3 c κs = search needs
 
 add-below : tie.Need-add-below
 add-below c =
-    let a = c .before .before .before .before .before .before .args in
+    let at-start = c .before .before .before .before .before .before in
+    let a = at-start .args in
     omega (arith, c .before .borrow2 .ensures, c .borrow3 .ensures, borrow-le (a .self .hi) (a .other .hi), borrow-le (c .before .before .before .wrapping-sub-u642 .result) (c .before .before .before .before .before .borrow .result))
 
 returns : tie.Need-returns
-returns c = subtracts _ _ (search needs) (search needs) _ _ _ _ _ _ (search needs) (search needs) (search needs) (c .before .before .before .before .before .before .borrow .ensures) (c .before .before .before .before .before .wrapping-sub-u64 .ensures) (c .before .before .before .before .wrapping-sub-u642 .ensures) (c .before .before .before .wrapping-sub-u643 .ensures) (c .before .before .borrow2 .ensures) (c .before .borrow3 .ensures) (c .if1 .taken)
+returns c =
+    let at-borrow = c .before .before .before .before .before .before in
+    subtracts _ _ (search needs) (search needs) _ _ _ _ _ _ (search needs) (search needs) (search needs) (at-borrow .borrow .ensures) (c .before .before .before .before .before .wrapping-sub-u64 .ensures) (c .before .before .before .before .wrapping-sub-u642 .ensures) (c .before .before .before .wrapping-sub-u643 .ensures) (c .before .before .borrow2 .ensures) (c .before .borrow3 .ensures) (c .if1 .taken)
 
 returns-2 : tie.Need-returns-2
-returns-2 c = subtracts-below _ _ (search needs) (search needs) _ _ _ _ _ _ (search needs) (search needs) (search needs) (c .before .before .before .before .before .before .borrow .ensures) (c .before .before .before .before .before .wrapping-sub-u64 .ensures) (c .before .before .before .before .wrapping-sub-u642 .ensures) (c .before .before .before .wrapping-sub-u643 .ensures) (c .before .before .borrow2 .ensures) (c .before .borrow3 .ensures) (c .if1 .left)
+returns-2 c =
+    let at-borrow = c .before .before .before .before .before .before in
+    subtracts-below _ _ (search needs) (search needs) _ _ _ _ _ _ (search needs) (search needs) (search needs) (at-borrow .borrow .ensures) (c .before .before .before .before .before .wrapping-sub-u64 .ensures) (c .before .before .before .before .wrapping-sub-u642 .ensures) (c .before .before .before .wrapping-sub-u643 .ensures) (c .before .before .borrow2 .ensures) (c .before .borrow3 .ensures) (c .if1 .left)
 
 pub checked-sub-spec : {M : Type 1} → statement M
 checked-sub-spec =

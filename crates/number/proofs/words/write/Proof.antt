@@ -18,7 +18,9 @@ same-length : tie.Need-same-length
 same-length c = search needs
 
 returns : tie.Need-returns
-returns c = number-put _ _ _ _ _ (search needs) (c .before .before .before .before .before .before .write-half .ensures) (c .before .before .write-half2 .ensures)
+returns c =
+    let at-write-half = c .before .before .before .before .before .before in
+    number-put _ _ _ _ _ (search needs) (at-write-half .write-half .ensures) (c .before .before .write-half2 .ensures)
 
 pub write-spec : {M : Type 1} → statement M
 write-spec =

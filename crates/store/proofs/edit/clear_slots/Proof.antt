@@ -6,7 +6,7 @@ use mathlib.Core.Path.{_≡_, refl}
 use Prim.Native.Nat.{_-_, _≤_}
 use lib.ListN.{length, length-set}
 use Rattle.store.specs.Slots.{slotsIn}
-use Rattle.store.proofs.Moves.{zeroed, zeroed-none, zeroed-cleared, clear-turn}
+use Rattle.store.proofs.SlotMoves.{zeroed, zeroed-none, zeroed-cleared, clear-turn}
 use Rattle.store.proofs.edit.clear_slots.Statement.{statement}
 use Rattle.store.proofs.edit.clear_slots.Tie as tie
 

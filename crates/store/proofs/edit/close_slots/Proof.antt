@@ -2,7 +2,7 @@
 -- Assumes nothing.
 use borrow.Author.Needs.{needs}
 use Rattle.store.specs.Slots.{slotsIn}
-use Rattle.store.proofs.Moves.{closed-steps}
+use Rattle.store.proofs.SlotMoves.{closed-steps}
 use Rattle.store.proofs.edit.close_slots.Statement.{statement}
 use Rattle.store.proofs.edit.close_slots.Tie as tie
 
@@ -36,7 +36,10 @@ same-length : tie.Need-same-length
 same-length c = search needs
 
 returns : tie.Need-returns
-returns c = closed-steps _ _ _ _ _ _ (c .before .before .before .before .before .before .before .before .before .pre .0) (c .before .before .before .before .before .before .before .before .before .pre .1) (c .before .before .before .before .before .before .move-down .ensures) (c .before .before .clear-slots .ensures)
+returns c =
+    let at-start = c .before .before .before .before .before .before .before .before .before in
+    let at-move-down = c .before .before .before .before .before .before in
+    closed-steps _ _ _ _ _ _ (at-start .pre .0) (at-start .pre .1) (at-move-down .move-down .ensures) (c .before .before .clear-slots .ensures)
 
 pub close-slots-spec : {M : Type 1} → statement M
 close-slots-spec =

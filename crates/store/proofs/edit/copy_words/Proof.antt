@@ -6,7 +6,7 @@ use mathlib.Core.Path.{_≡_, refl}
 use Prim.Native.Nat.{_-_, _≤_}
 use denote.Ref.{now}
 use lib.ListN.{length, length-set, drop}
-use Rattle.store.proofs.Moves.{copied, copied-none, copied-all, copy-turn}
+use Rattle.store.proofs.SlotMoves.{copied, copied-none, copied-all, copy-turn}
 use Rattle.store.proofs.edit.copy_words.Statement.{statement}
 use Rattle.store.proofs.edit.copy_words.Tie as tie
 

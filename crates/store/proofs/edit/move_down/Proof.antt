@@ -5,7 +5,7 @@ use native.Mathlib.Omega.{arith}
 use mathlib.Core.Path.{_≡_, refl}
 use Prim.Native.Nat.{_+_, _-_, _≤_}
 use lib.ListN.{length, length-set, drop}
-use Rattle.store.proofs.Moves.{copied, copied-none, copied-all, down-turn}
+use Rattle.store.proofs.SlotMoves.{copied, copied-none, copied-all, down-turn}
 use Rattle.store.proofs.edit.move_down.Statement.{statement}
 use Rattle.store.proofs.edit.move_down.Tie as tie
 

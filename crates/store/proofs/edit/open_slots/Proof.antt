@@ -6,7 +6,7 @@ use mathlib.Core.Path.{_≡_, refl}
 use Prim.Native.Nat.{_-_, _*_, _≤_}
 use lib.ListN.{length, length-set}
 use Rattle.store.specs.Slots.{slotsIn}
-use Rattle.store.proofs.Moves.{raised, raised-none, raised-opened, up-turn}
+use Rattle.store.proofs.SlotMoves.{raised, raised-none, raised-opened, up-turn}
 use Rattle.store.proofs.edit.open_slots.Statement.{statement}
 use Rattle.store.proofs.edit.open_slots.Tie as tie
 

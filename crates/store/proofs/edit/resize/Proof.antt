@@ -2,7 +2,7 @@
 -- Assumes nothing.
 use native.Mathlib.Omega.{arith}
 use borrow.Author.Needs.{needs}
-use Rattle.store.proofs.Runs.{resized-same, resized-up, resized-down}
+use Rattle.store.proofs.SlotSplices.{resized-same, resized-up, resized-down}
 use Rattle.store.proofs.edit.resize.Statement.{statement}
 use Rattle.store.proofs.edit.resize.Tie as tie
 

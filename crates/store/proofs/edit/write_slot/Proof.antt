@@ -3,7 +3,7 @@
 use native.Mathlib.Omega.{arith}
 use borrow.Author.Needs.{needs}
 use Rattle.store.specs.Slots.{slotsIn}
-use Rattle.store.proofs.Moves.{written-copy}
+use Rattle.store.proofs.SlotMoves.{written-copy}
 use Rattle.store.proofs.edit.write_slot.Statement.{statement}
 use Rattle.store.proofs.edit.write_slot.Tie as tie
 

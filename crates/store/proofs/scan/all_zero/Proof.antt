@@ -9,7 +9,7 @@ use denote.Ref.{now}
 use lib.ListN.{drop, take}
 use mathlib.Core.Logic.{⊎-elim}
 use Rattle.store.specs.Slots.{allZero}
-use Rattle.store.proofs.Scans.{zero-kept, zero-lost, zero-done}
+use Rattle.store.proofs.SlotScans.{zero-kept, zero-lost, zero-done}
 use Rattle.store.proofs.scan.all_zero.Statement.{statement}
 use Rattle.store.proofs.scan.all_zero.Tie as tie
 

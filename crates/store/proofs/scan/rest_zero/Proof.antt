@@ -1,8 +1,8 @@
 -- `store::scan::rest_zero` meets its contract.
 -- Assumes nothing.
 use native.Mathlib.Omega.{arith}
-use Rattle.store.proofs.Words.{slot-inside}
-use Rattle.store.proofs.Scans.{rest-is}
+use Rattle.store.proofs.StoreWords.{slot-inside}
+use Rattle.store.proofs.SlotScans.{rest-is}
 use Rattle.store.proofs.scan.rest_zero.Statement.{statement}
 use Rattle.store.proofs.scan.rest_zero.Tie as tie
 

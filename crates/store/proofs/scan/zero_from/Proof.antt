@@ -3,7 +3,7 @@
 use borrow.Author.Needs.{needs}
 use denote.Ref.{now}
 use Rattle.store.specs.Slots.{slotsIn}
-use Rattle.store.proofs.Scans.{zero-slots}
+use Rattle.store.proofs.SlotScans.{zero-slots}
 use Rattle.store.proofs.scan.zero_from.Statement.{statement}
 use Rattle.store.proofs.scan.zero_from.Tie as tie
 

@@ -1,7 +1,7 @@
 -- `store::search::find_slot` meets its contract.
 -- Assumes nothing.
 use borrow.Author.Needs.{needs}
-use Rattle.store.proofs.Finds.{find-full, find-there, find-absent}
+use Rattle.store.proofs.SlotFinds.{find-full, find-there, find-absent}
 use Rattle.store.proofs.search.find_slot.Statement.{statement}
 use Rattle.store.proofs.search.find_slot.Tie as tie
 
@@ -20,12 +20,14 @@ stands-at-requires c κs = search needs
 
 returns-2 : tie.Need-returns-2
 returns-2 c =
-    find-there _ (c .before .before .before .before .before .before .pre .0) _ _ _ _ (c .before .before .before .before .before .before .pre .1) _ (c .before .before .before .before .lower-bound .ensures .0) _ (c .before .before .before .slot-count .ensures)
+    let at-start = c .before .before .before .before .before .before in
+    find-there _ (at-start .pre .0) _ _ _ _ (at-start .pre .1) _ (c .before .before .before .before .lower-bound .ensures .0) _ (c .before .before .before .slot-count .ensures)
     (c .before .before .if1 .left) _ (c .before .stands-at .ensures) (c .if2 .taken)
 
 returns-3 : tie.Need-returns-3
 returns-3 c =
-    find-absent _ (c .before .before .before .before .before .before .pre .0) _ _ _ _ (c .before .before .before .before .before .before .pre .1) _ (c .before .before .before .before .lower-bound .ensures .0) _ (c .before .before .before .slot-count .ensures)
+    let at-start = c .before .before .before .before .before .before in
+    find-absent _ (at-start .pre .0) _ _ _ _ (at-start .pre .1) _ (c .before .before .before .before .lower-bound .ensures .0) _ (c .before .before .before .slot-count .ensures)
     (c .before .before .if1 .left) _ (c .before .stands-at .ensures) (c .if2 .left)
 
 pub find-slot-spec : {M : Type 1} → statement M

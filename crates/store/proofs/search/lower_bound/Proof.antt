@@ -6,7 +6,7 @@ use mathlib.Core.List.{[], _∷_}
 use Prim.Native.Nat.{_-_, _≤_}
 use lib.ListN.{length}
 use Rattle.store.specs.Slots.{slotsIn, held, placeOf}
-use Rattle.store.proofs.Place.{place-inside, place-met, search-up, search-down}
+use Rattle.store.proofs.SlotPlaces.{place-inside, place-met, search-up, search-down}
 use Rattle.store.proofs.search.lower_bound.Statement.{statement}
 use Rattle.store.proofs.search.lower_bound.Tie as tie
 
@@ -38,13 +38,17 @@ loop-less : tie.Need-loop-less Inv-loop μ-loop
 loop-less c = search needs
 
 loop-again : tie.Need-loop-again Inv-loop μ-loop
-loop-again c = (search-up _ (c .before .before .before .before .before .before .pre) _ (omega arith) _ _ (c .before .stands-before .ensures) (c .if1 .taken), c .before .before .before .loop .inv .1, c .before .before .before .loop .inv .2)
+loop-again c =
+    let at-start = c .before .before .before .before .before .before in
+    (search-up _ (at-start .pre) _ (omega arith) _ _ (c .before .stands-before .ensures) (c .if1 .taken), c .before .before .before .loop .inv .1, c .before .before .before .loop .inv .2)
 
 loop-less-2 : tie.Need-loop-less-2 Inv-loop μ-loop
 loop-less-2 c = search needs
 
 loop-again-2 : tie.Need-loop-again-2 Inv-loop μ-loop
-loop-again-2 c = (c .before .before .before .loop .inv .0, search-down _ (c .before .before .before .before .before .before .pre) _ (omega arith) _ _ (c .before .stands-before .ensures) (c .if1 .left), omega arith)
+loop-again-2 c =
+    let at-start = c .before .before .before .before .before .before in
+    (c .before .before .before .loop .inv .0, search-down _ (at-start .pre) _ (omega arith) _ _ (c .before .stands-before .ensures) (c .if1 .left), omega arith)
 
 returns : tie.Need-returns Inv-loop μ-loop
 returns c = place-met _ _ _ _ (c .before .loop .inv .0) (c .before .loop .inv .1) (c .loop-test .left)

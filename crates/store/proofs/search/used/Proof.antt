@@ -6,8 +6,8 @@ use Prim.Native.Nat.{_-_, _≤_}
 use lib.ListN.{length}
 use denote.Ref.{now}
 use Rattle.store.specs.Slots.{slotsIn, held}
-use Rattle.store.proofs.Encode.{held-fits}
-use Rattle.store.proofs.Place.{used-up, used-down}
+use Rattle.store.proofs.StoreEncoding.{held-fits}
+use Rattle.store.proofs.SlotPlaces.{used-up, used-down}
 use Rattle.store.proofs.search.used.Statement.{statement}
 use Rattle.store.proofs.search.used.Tie as tie
 
@@ -39,13 +39,17 @@ loop-less : tie.Need-loop-less Inv-loop μ-loop
 loop-less c = search needs
 
 loop-again : tie.Need-loop-again Inv-loop μ-loop
-loop-again c = (used-up _ (c .before .before .before .before .before .before .pre) _ (omega arith) _ (c .before .word .ensures) (c .if1 .taken), c .before .before .before .loop .inv .1, c .before .before .before .loop .inv .2)
+loop-again c =
+    let at-start = c .before .before .before .before .before .before in
+    (used-up _ (at-start .pre) _ (omega arith) _ (c .before .word .ensures) (c .if1 .taken), c .before .before .before .loop .inv .1, c .before .before .before .loop .inv .2)
 
 loop-less-2 : tie.Need-loop-less-2 Inv-loop μ-loop
 loop-less-2 c = search needs
 
 loop-again-2 : tie.Need-loop-again-2 Inv-loop μ-loop
-loop-again-2 c = (c .before .before .before .loop .inv .0, used-down _ (c .before .before .before .before .before .before .pre) _ (omega arith) _ (c .before .word .ensures) (c .if1 .left), omega arith)
+loop-again-2 c =
+    let at-start = c .before .before .before .before .before .before in
+    (c .before .before .before .loop .inv .0, used-down _ (at-start .pre) _ (omega arith) _ (c .before .word .ensures) (c .if1 .left), omega arith)
 
 returns : tie.Need-returns Inv-loop μ-loop
 returns c = search needs

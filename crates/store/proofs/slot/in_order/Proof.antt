@@ -1,7 +1,7 @@
 -- `store::slot::in_order` meets its contract.
 -- Assumes nothing.
 use borrow.Author.Needs.{needs}
-use Rattle.store.proofs.Compare.{slot-before}
+use Rattle.store.proofs.SlotCompares.{slot-before}
 use Rattle.store.proofs.slot.in_order.Statement.{statement}
 use Rattle.store.proofs.slot.in_order.Tie as tie
 
@@ -21,7 +21,9 @@ words-before-requires : tie.Need-words-before-requires
 words-before-requires c κs = search needs
 
 returns : tie.Need-returns
-returns c = slot-before _ _ _ _ _ _ _ _ (c .before .before .before .before .before .before .pre .1) (c .before .before .before .before .word .ensures) (c .before .before .before .word2 .ensures) (c .before .before .word3 .ensures) (c .before .word4 .ensures) (c .words-before .ensures)
+returns c =
+    let at-start = c .before .before .before .before .before .before in
+    slot-before _ _ _ _ _ _ _ _ (at-start .pre .1) (c .before .before .before .before .word .ensures) (c .before .before .before .word2 .ensures) (c .before .before .word3 .ensures) (c .before .word4 .ensures) (c .words-before .ensures)
 
 pub in-order-spec : {M : Type 1} → statement M
 in-order-spec =

@@ -1,6 +1,6 @@
 -- `store::slot::precedes` meets its contract: the first words that differ decide.
 -- Assumes nothing.
-use Rattle.store.proofs.Compare.{before-differs, before-next, before-last}
+use Rattle.store.proofs.SlotCompares.{before-differs, before-next, before-last}
 use Rattle.store.proofs.slot.precedes.Statement.{statement}
 use Rattle.store.proofs.slot.precedes.Tie as tie
 

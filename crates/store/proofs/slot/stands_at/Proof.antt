@@ -1,7 +1,7 @@
 -- `store::slot::stands_at` meets its contract.
 -- Assumes nothing.
 use borrow.Author.Needs.{needs}
-use Rattle.store.proofs.Compare.{at-first, at-second, at-third, at-fourth}
+use Rattle.store.proofs.SlotCompares.{at-first, at-second, at-third, at-fourth}
 use Rattle.store.proofs.slot.stands_at.Statement.{statement}
 use Rattle.store.proofs.slot.stands_at.Tie as tie
 
@@ -22,7 +22,8 @@ word-requires-3 c κs = search needs
 
 returns-3 : tie.Need-returns-3
 returns-3 c =
-    at-third _ _ (c .before .before .before .before .before .before .before .pre) _ _ _ _ _ (c .before .before .before .before .before .word .ensures) (c .before .before .before .before .if1 .left) _ (c .before .before .before .word2 .ensures) (c .before .before .if2 .left) _
+    let at-start = c .before .before .before .before .before .before .before in
+    at-third _ _ (at-start .pre) _ _ _ _ _ (c .before .before .before .before .before .word .ensures) (c .before .before .before .before .if1 .left) _ (c .before .before .before .word2 .ensures) (c .before .before .if2 .left) _
     (c .before .word3 .ensures) (c .if3 .taken)
 
 word-requires-4 : tie.Need-word-requires-4
@@ -30,7 +31,9 @@ word-requires-4 c κs = search needs
 
 returns-4 : tie.Need-returns-4
 returns-4 c =
-    at-fourth _ _ (c .before .before .before .before .before .before .before .before .pre) _ _ _ _ _ (c .before .before .before .before .before .before .word .ensures) (c .before .before .before .before .before .if1 .left) _ (c .before .before .before .before .word2 .ensures) (c .before .before .before .if2 .left) _
+    let at-start = c .before .before .before .before .before .before .before .before in
+    let at-word = c .before .before .before .before .before .before in
+    at-fourth _ _ (at-start .pre) _ _ _ _ _ (at-word .word .ensures) (c .before .before .before .before .before .if1 .left) _ (c .before .before .before .before .word2 .ensures) (c .before .before .before .if2 .left) _
     (c .before .before .word3 .ensures) (c .before .if3 .left) _ (c .word4 .ensures)
 
 pub stands-at-spec : {M : Type 1} → statement M

@@ -1,7 +1,7 @@
 -- `store::slot::stands_before` meets its contract.
 -- Assumes nothing.
 use borrow.Author.Needs.{needs}
-use Rattle.store.proofs.Compare.{unused-before, used-before}
+use Rattle.store.proofs.SlotCompares.{unused-before, used-before}
 use Rattle.store.proofs.slot.stands_before.Statement.{statement}
 use Rattle.store.proofs.slot.stands_before.Tie as tie
 

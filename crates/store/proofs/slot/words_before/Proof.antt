@@ -1,7 +1,7 @@
 -- `store::slot::words_before` meets its contract.
 -- Assumes nothing.
 use borrow.Author.Needs.{needs}
-use Rattle.store.proofs.Compare.{four-before}
+use Rattle.store.proofs.SlotCompares.{four-before}
 use Rattle.store.proofs.slot.words_before.Statement.{statement}
 use Rattle.store.proofs.slot.words_before.Tie as tie
 
@@ -21,7 +21,9 @@ precedes-requires : tie.Need-precedes-requires
 precedes-requires c κs = search needs
 
 returns : tie.Need-returns
-returns c = four-before _ _ (c .before .before .before .before .before .before .pre) _ _ _ _ _ _ (c .before .before .before .before .word .ensures) (c .before .before .before .word2 .ensures) (c .before .before .word3 .ensures) (c .before .word4 .ensures) (c .precedes .ensures)
+returns c =
+    let at-start = c .before .before .before .before .before .before in
+    four-before _ _ (at-start .pre) _ _ _ _ _ _ (c .before .before .before .before .word .ensures) (c .before .before .before .word2 .ensures) (c .before .before .word3 .ensures) (c .before .word4 .ensures) (c .precedes .ensures)
 
 pub words-before-spec : {M : Type 1} → statement M
 words-before-spec =

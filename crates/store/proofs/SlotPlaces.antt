@@ -7,17 +7,18 @@ use Prim.Native.Nat.{ℕ, _+_, _-_, _*_, _≤_, _<_}
 use native.Mathlib.Omega.{arith}
 use native.Mathlib.Decide.{decLt}
 use lib.Dec.{ltb}
-use lib.ListN.{length, getD, take, drop, length-drop, List·getD-eq-default}
+use lib.ListN.{length, getD, take, drop, length-drop}
 use lib.Seq.{length-take-le, getD-take, getD-drop}
 use borrow.Author.Tests.{not-true, ltb-true, ltb-false, lt-ltb, le-ltb}
-use Rattle.store.specs.Slots.{Slot, slotWidth, slotsIn, isWhole, isUsed, slotAt, held, packed, encode, front, before, isBefore, sameWords, isAt, every, ordered, placeOf}
-use Rattle.store.specs.Runs.{spliced}
-use Rattle.store.proofs.Lists.{and-left, and-right, and-both, true-not-false, same-words, words-same, every-imp, every-at, every-of, every-both, every-front, front-take, length-front}
-use Rattle.store.proofs.Words.{whole-length}
-use Rattle.store.proofs.Encode.{held-whole, held-used, held-fits, packed-ordered, encode-held, slotAt-encode, unused-encode}
-use Rattle.store.proofs.Runs.{spliced-insert}
-use Rattle.store.proofs.Compare.{word-used, word-unused}
-use Rattle.store.proofs.Order.{before-irrefl, before-trans, Side, lower, level, upper, side, ordered-append, ordered-take, ordered-drop, ordered-halves, ordered-at}
+use Rattle.lists.specs.Lists.{every, front}
+use Rattle.lists.proofs.Bools.{and-left, and-right, true-not-false}
+use Rattle.lists.proofs.Lists.{every-at, every-front, every-imp, every-of, front-take, length-front}
+use Rattle.store.specs.Slots.{Slot, slotWidth, slotsIn, isWhole, isUsed, slotAt, held, packed, encode, before, isBefore, sameWords, isAt, ordered, placeOf}
+use Rattle.store.proofs.StoreWords.{whole-length}
+use Rattle.store.proofs.StoreEncoding.{held-whole, held-used, held-fits, packed-ordered, encode-held, slotAt-encode, unused-encode}
+use Rattle.store.proofs.SlotCompares.{word-used, word-unused}
+use Rattle.store.proofs.SlotOrder.{before-irrefl, before-trans, Side, lower, level, upper, side, ordered-at}
+use Rattle.store.proofs.ZeroWords.{same-words, words-same}
 
 module _ (k : List ℕ) where
   pub place-fits : (us : List Slot) → placeOf k us ≤ length us
@@ -131,52 +132,12 @@ module _ (k : List ℕ) where
       go (level g) = true-not-false (sameWords (take 4 u) k) (rw g (words-same k)) f
       go (upper g) = g
 
-  -- no slot is at the four words exactly where the one at their place is not
-  pub absent-place : (us : List Slot) → length k ≡ 4 → every (λ v. not (isAt k v)) us ≡ true → isAt k (getD us (placeOf k us) []) ≡ false
-  absent-place us l e = go (decLt (placeOf k us) (length us))
-    where
-      go : Dec (placeOf k us < length us) → isAt k (getD us (placeOf k us) []) ≡ false
-      go (yes h) = not-true (isAt k (getD us (placeOf k us) [])) (every-at (λ v. not (isAt k v)) us (placeOf k us) [] h e)
-      go (no h) = rw (List·getD-eq-default us [] {n = placeOf k us} (omega arith)) (nothing-at l)
-
   pub absent-all : (us : List Slot) → ordered us ≡ true → isAt k (getD us (placeOf k us) []) ≡ false → every (λ v. not (isAt k v)) us ≡ true
   absent-all us e f = every-of (λ v. not (isAt k v)) us [] (λ i h. go i h (isAt k (getD us i [])) refl)
     where
       go : (i : ℕ) → i < length us → (b : Bool) → isAt k (getD us i []) ≡ b → not (isAt k (getD us i [])) ≡ true
       go i h true g = true-not-false (isAt k (getD us (placeOf k us) [])) (rw (at-place us i e h g) at g) f
       go i h false g = rw g
-
-  module _ (us : List Slot) (u : Slot) (rising : ordered us ≡ true) (whole : every isWhole us ≡ true) (four : length k ≡ 4) (own : take 4 u ≡ k) (absent : isAt k (getD us (placeOf k us) []) ≡ false) where
-    -- the slots from the place on stand after the new one
-    after-at : (i : ℕ) → placeOf k us ≤ i → i < length us → isBefore u (getD us i []) ≡ true
-    unfolding isBefore
-    after-at i l h =
-        rw own
-        (after (getD us i []) four (every-at isWhole us i [] h whole) (place-test us i rising h ∙ le-ltb i (placeOf k us) l)
-        (go (isAt k (getD us i [])) refl))
-      where
-        go : (b : Bool) → isAt k (getD us i []) ≡ b → isAt k (getD us i []) ≡ false
-        go true e = true-not-false (isAt k (getD us (placeOf k us) [])) (rw (at-place us i rising h e) at e) absent
-        go false e = e
-
-    after-place : every (isBefore u) (drop (placeOf k us) us) ≡ true
-    after-place =
-        every-of (isBefore u) (drop (placeOf k us) us) []
-        (λ j h. rw (getD-drop (placeOf k us) us j []) (after-at (placeOf k us + j) (omega arith) (omega (arith, length-drop (placeOf k us) us))))
-
-    -- and those below it before the new one
-    before-place : every (λ v. isBefore v u) (take (placeOf k us) us) ≡ true
-    unfolding isBefore
-    before-place = every-imp (λ v. before (take 4 v) k) (λ v. isBefore v u) (λ v e. rw own e) (take (placeOf k us) us) (take-place us)
-
-    pub ordered-inserted : ordered (spliced (placeOf k us) 0 (u ∷ []) us) ≡ true
-    unfolding ordered every
-    ordered-inserted =
-        rw (spliced-insert (placeOf k us) u us)
-        (ordered-append (take (placeOf k us) us) (u ∷ drop (placeOf k us) us) (ordered-take us rising (placeOf k us))
-        (and-both (every (isBefore u) (drop (placeOf k us) us)) (ordered (drop (placeOf k us) us)) after-place (ordered-drop us rising (placeOf k us)))
-        (every-both (λ v. isBefore v u) (λ v. every (isBefore v) (drop (placeOf k us) us)) (take (placeOf k us) us) before-place
-        (ordered-halves us rising (placeOf k us))))
 
 -- what a search reads of a packed store: slots not in use count as after everything
 module _ (s : List ℕ) (rising : packed s ≡ true) (i : ℕ) (h : i < slotsIn (length s)) where

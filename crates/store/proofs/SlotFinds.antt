@@ -8,13 +8,15 @@ use native.Mathlib.Omega.{arith}
 use native.Mathlib.Decide.{decLt}
 use lib.ListN.{length, getD, take, length-append, List·getD-eq-default}
 use borrow.Author.Tests.{not-true, lt-ltb, le-leb, le-ltb, ne-eqb}
-use Rattle.store.specs.Slots.{Slot, slotsIn, slotAt, held, isUsed, packed, front, before, isBefore, sameWords, isAt, every, ordered, placeOf}
+use Rattle.lists.specs.Lists.{every, front}
+use Rattle.lists.proofs.Bools.{and-left, and-right, true-not-false}
+use Rattle.lists.proofs.Lists.{every-append, every-imp, front-append}
+use Rattle.store.specs.Slots.{Slot, slotsIn, slotAt, held, isUsed, packed, before, isBefore, sameWords, isAt, ordered, placeOf}
 use Rattle.store.specs.Found.{isThere, foundAt, isAmong}
 use Rattle.store.specs.declared.search.Found.the-variants.{There, Absent}
-use Rattle.store.proofs.Lists.{and-left, and-right, true-not-false, every-append, every-imp, front-append}
-use Rattle.store.proofs.Encode.{held-fits, packed-ordered}
-use Rattle.store.proofs.Order.{before-irrefl, before-asym, ordered-across}
-use Rattle.store.proofs.Place.{place-fits, nothing-at, at-level, absent-all, slotAt-held, used-test}
+use Rattle.store.proofs.StoreEncoding.{held-fits, packed-ordered}
+use Rattle.store.proofs.SlotOrder.{before-irrefl, before-asym, ordered-across}
+use Rattle.store.proofs.SlotPlaces.{place-fits, nothing-at, at-level, absent-all, slotAt-held, used-test}
 
 module _ (k : List ℕ) where
   -- the place among slots in two parts
@@ -102,15 +104,6 @@ module _ (k : List ℕ) where
       ∙ rw (every-imp (λ u. before (take 4 u) k) (λ u. not (isAt k u)) before-not-at us e, every-imp (λ v. before k (take 4 v)) (λ v. not (isAt k v)) after-not-at vs f)
       in
       rw (isThere-none (us ++ vs) none, place-between us vs e (every-imp (λ v. before k (take 4 v)) (λ v. not (before (take 4 v) k)) after-not-before vs f))
-
-  -- what an answer tells
-  pub there-told : (us : List Slot) (i : ℕ) → There i ≡ foundAt k us → (isThere k us ≡ true) × (i ≡ placeOf k us)
-  unfolding foundAt
-  there-told us i e = go (isThere k us) refl
-    where
-      go : (b : Bool) → isThere k us ≡ b → (isThere k us ≡ true) × (i ≡ placeOf k us)
-      go true f = (f, let g : There i ≡ There (placeOf k us) = rw f at e in cc)
-      go false f = absurd (let g : There i ≡ Absent (placeOf k us) = rw f at e in let z : _≡_ {A = ℕ} 0 1 = cc in omega arith)
 
   pub absent-told : (us : List Slot) (i : ℕ) → Absent i ≡ foundAt k us → (isThere k us ≡ false) × (i ≡ placeOf k us)
   unfolding foundAt

@@ -8,12 +8,12 @@ use Prim.Native.Nat.{ℕ, zero, suc, _+_, _<_}
 use native.Mathlib.Omega.{arith}
 use native.Mathlib.Decide.{decLt}
 use lib.Dec.{ltb, eqb}
-use lib.ListN.{length, getD, take, drop, set, take-append-drop}
-use lib.Seq.{drop-drop}
+use lib.ListN.{length, getD, take}
 use borrow.Author.Tests.{ltb-true, eqb-true, lt-ltb, le-ltb, eq-eqb}
-use Rattle.store.specs.Slots.{Slot, before, isBefore, every, ordered, neighbours}
-use Rattle.store.specs.Runs.{spliced}
-use Rattle.store.proofs.Lists.{and-left, and-right, and-both, and-assoc, and-swap, true-not-false, same-test, every-append, every-imp, every-drop, every-at, every-set}
+use Rattle.lists.specs.Lists.{every}
+use Rattle.lists.proofs.Bools.{and-assoc, and-both, and-left, and-right, and-swap, same-test, true-not-false}
+use Rattle.lists.proofs.Lists.{every-append, every-at, every-imp}
+use Rattle.store.specs.Slots.{Slot, before, isBefore, ordered, neighbours}
 
 -- the order of two lists, as facts on their heads
 unfoldable pub Earlier : ℕ → ℕ → List ℕ → List ℕ → Type 0
@@ -85,22 +85,9 @@ side (x ∷ xs) (y ∷ ys) e = byHead (decLt x y) (decLt y x) (side xs ys (omega
     byHead (no h) (yes g) r = upper (before-tell y x ys xs (inl g))
     byHead (no h) (no g) r = byTail (omega arith) r
 
-pub isBefore-irrefl : (u : Slot) → isBefore u u ≡ false
-unfolding isBefore
-isBefore-irrefl u = before-irrefl (take 4 u)
-
 pub isBefore-trans : (u v w : Slot) → isBefore u v ≡ true → isBefore v w ≡ true → isBefore u w ≡ true
 unfolding isBefore
 isBefore-trans u v w e f = before-trans (take 4 u) (take 4 v) (take 4 w) e f
-
--- slots in order
-pub ordered-left : (us vs : List Slot) → ordered (us ++ vs) ≡ true → ordered us ≡ true
-unfolding ordered
-ordered-left [] vs e = refl
-ordered-left (u ∷ us) vs e =
-    and-both (every (isBefore u) us) (ordered us)
-    (and-left (every (isBefore u) us) (every (isBefore u) vs) (sym (every-append (isBefore u) us vs) ∙ and-left (every (isBefore u) (us ++ vs)) (ordered (us ++ vs)) e))
-    (ordered-left us vs (and-right (every (isBefore u) (us ++ vs)) (ordered (us ++ vs)) e))
 
 pub ordered-right : (us vs : List Slot) → ordered (us ++ vs) ≡ true → ordered vs ≡ true
 unfolding ordered
@@ -125,57 +112,12 @@ ordered-append (u ∷ us) vs e f g =
     (and-left (every (isBefore u) vs) (every (λ w. every (isBefore w) vs) us) g))
     (ordered-append us vs (and-right (every (isBefore u) us) (ordered us) e) f (and-right (every (isBefore u) vs) (every (λ w. every (isBefore w) vs) us) g))
 
-module _ (us : List Slot) (rising : ordered us ≡ true) where
-  halves : (i : ℕ) → ordered (take i us ++ drop i us) ≡ true
-  halves i = rw (take-append-drop i us) rising
-
-  pub ordered-take : (i : ℕ) → ordered (take i us) ≡ true
-  ordered-take i = ordered-left (take i us) (drop i us) (halves i)
-
-  pub ordered-drop : (i : ℕ) → ordered (drop i us) ≡ true
-  ordered-drop i = ordered-right (take i us) (drop i us) (halves i)
-
-  pub ordered-halves : (i : ℕ) → every (λ u. every (isBefore u) (drop i us)) (take i us) ≡ true
-  ordered-halves i = ordered-across (take i us) (drop i us) (halves i)
-
-  pub ordered-removed : (i n : ℕ) → ordered (spliced i n [] us) ≡ true
-  unfolding spliced
-  ordered-removed i n =
-      let e : drop (i + n) us ≡ drop n (drop i us) = sym (drop-drop n i us) in
-      ordered-append (take i us) (drop (i + n) us) (ordered-take i) (ordered-drop (i + n))
-      (every-imp (λ u. every (isBefore u) (drop i us)) (λ u. every (isBefore u) (drop (i + n) us))
-      (λ u f. rw e (every-drop (isBefore u) n (drop i us) f))
-      (take i us) (ordered-halves i))
-
--- a slot replaced by one at the same place
-pub ordered-set : (us : List Slot) (i : ℕ) (u : Slot) → ordered us ≡ true → i < length us → take 4 u ≡ take 4 (getD us i []) → ordered (set us i u) ≡ true
-unfolding ordered isBefore
-ordered-set [] i u e h f = e
-ordered-set (v ∷ us) zero u e h f =
-    and-both (every (isBefore u) us) (ordered us)
-    (every-imp (isBefore v) (isBefore u) (λ w g. rw f g) us (and-left (every (isBefore v) us) (ordered us) e))
-    (and-right (every (isBefore v) us) (ordered us) e)
-ordered-set (v ∷ us) (suc i) u e h f =
-    and-both (every (isBefore v) (set us i u)) (ordered (set us i u))
-    (every-set (isBefore v) us i u (and-left (every (isBefore v) us) (ordered us) e)
-    (rw f (every-at (isBefore v) us i [] (omega arith) (and-left (every (isBefore v) us) (ordered us) e))))
-    (ordered-set us i u (and-right (every (isBefore v) us) (ordered us) e) (omega arith) f)
-
 pub ordered-at : (us : List Slot) (i j : ℕ) → ordered us ≡ true → i < j → j < length us → isBefore (getD us i []) (getD us j []) ≡ true
 unfolding ordered
 ordered-at [] i j e h g = absurd (omega arith)
 ordered-at (u ∷ us) i zero e h g = absurd (omega arith)
 ordered-at (u ∷ us) zero (suc j) e h g = every-at (isBefore u) us j [] (omega arith) (and-left (every (isBefore u) us) (ordered us) e)
 ordered-at (u ∷ us) (suc i) (suc j) e h g = ordered-at us i j (and-right (every (isBefore u) us) (ordered us) e) (omega arith) (omega arith)
-
--- each before all later ones, where each is before the next
-pub neighbours-imp : (p q : Slot → Slot → Bool) → ((u v : Slot) → p u v ≡ true → q u v ≡ true) → (us : List Slot) → neighbours p us ≡ true → neighbours q us ≡ true
-unfolding neighbours
-neighbours-imp p q h [] e = refl
-neighbours-imp p q h (u ∷ []) e = refl
-neighbours-imp p q h (u ∷ v ∷ us) e =
-    and-both (q u v) (neighbours q (v ∷ us)) (h u v (and-left (p u v) (neighbours p (v ∷ us)) e))
-    (neighbours-imp p q h (v ∷ us) (and-right (p u v) (neighbours p (v ∷ us)) e))
 
 pub neighbours-at : (q : Slot → Slot → Bool) (us : List Slot) (i : ℕ) → neighbours q us ≡ true → i + 1 < length us → q (getD us i []) (getD us (i + 1) []) ≡ true
 unfolding neighbours

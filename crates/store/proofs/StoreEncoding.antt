@@ -7,9 +7,12 @@ use Prim.Native.Nat.{ℕ, zero, suc, _+_, _-_, _*_, _≤_, _<_}
 use native.Mathlib.Omega.{arith}
 use lib.ListN.{length, getD, take, drop, replicate, length-append, length-drop, length-replicate, take-append-drop, getD-replicate, List·getD-append, replicate-append-replicate}
 use lib.Seq.{length-take-le, take-at, drop-at, drop-drop, getD-take}
-use Rattle.store.specs.Slots.{Slot, slotWidth, slotsIn, flat, encode, slots, slotAt, isWhole, isUsed, front, held, every, ordered, isZeroFrom, packed}
-use Rattle.store.proofs.Lists.{and-left, and-right, every-take, every-front, front-take, length-front, front-append, front-long, front-stop, allZero-replicate, allZero-told}
-use Rattle.store.proofs.Words.{slots-inside, length-flat, flat-split, length-flat-take, length-slots, slots-add, take-slots, every-whole, slots-flat, flat-slots, slots-at, slotAt-word}
+use Rattle.lists.specs.Lists.{every, front}
+use Rattle.lists.proofs.Bools.{and-left, and-right}
+use Rattle.lists.proofs.Lists.{every-front, every-take, front-append, front-long, front-stop, front-take, length-front}
+use Rattle.store.specs.Slots.{Slot, slotWidth, slotsIn, flat, encode, slots, slotAt, isWhole, isUsed, held, ordered, isZeroFrom, packed}
+use Rattle.store.proofs.StoreWords.{slots-inside, length-flat, flat-split, length-flat-take, length-slots, slots-add, take-slots, every-whole, slots-flat, flat-slots, slots-at, slotAt-word}
+use Rattle.store.proofs.ZeroWords.{allZero-replicate, allZero-told}
 
 -- What follows n slots in use: zeros up to the last slot, and the words past it.
 unfoldable pub free : List ℕ → ℕ → List ℕ
@@ -215,10 +218,6 @@ encode-cleared n =
 pub held-cleared : (n : ℕ) → held (replicate n 0) ≡ []
 unfolding every
 held-cleared n = rw (← encode-cleared n) (held-encode (replicate n 0) [] refl (omega arith) refl)
-
-pub packed-cleared : (n : ℕ) → packed (replicate n 0) ≡ true
-unfolding every ordered
-packed-cleared n = rw (← encode-cleared n) (packed-encode (replicate n 0) [] refl (omega arith) refl)
 
 -- reading a store that holds slots
 module _ (s : List ℕ) (us : List Slot) (whole : every isWhole us ≡ true) (fits : length us ≤ slotsIn (length s)) where

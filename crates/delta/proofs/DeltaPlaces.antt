@@ -14,12 +14,12 @@ use Rattle.number.specs.declared.Number.{Number}
 use Rattle.number.specs.Number.{valueOf, numberOf}
 use Rattle.number.specs.Words.{digits, valueOfWords}
 use Rattle.number.proofs.Digits.{length-digits}
-use Rattle.number.proofs.Stores.{sets-then}
+use Rattle.number.proofs.SetRuns.{sets-then}
 use Rattle.delta.specs.declared.DeltaOp.{DeltaOp}
-use Rattle.delta.specs.Delta.{isMinus, isNegative, signed, signWord, numberAt, minusZero, deltaOk, deltaWords}
+use Rattle.delta.specs.Delta.{deltaWidth, isMinus, isNegative, signed, signWord, numberAt, minusZero, deltaOk, deltaWords}
 use Rattle.delta.specs.Op.{exact, opAt, validOp}
-use Rattle.delta.proofs.Format.{size-signed, minus-signed, not-zero, plus-fine, zero-plus}
-use Rattle.delta.proofs.Ops.{validOp-opAt}
+use Rattle.delta.proofs.DeltaFormat.{size-signed, minus-signed, not-zero, plus-fine, zero-plus}
+use Rattle.delta.proofs.DeltaOps.{validOp-opAt}
 
 -- ---- reading
 
@@ -32,34 +32,34 @@ drop-take (suc k) n (x ∷ l) = rw suc-add (drop-take k n l)
 part-of : (s : List ℕ) (at k n : ℕ) → 4 ≤ n → take 4 (drop k (take (k + n) (drop at s))) ≡ take 4 (drop (at + k) s)
 part-of s at k n h = ap (take 4) (drop-take k n (drop at s)) ∙ take-take 4 n (drop k (drop at s)) h ∙ ap (take 4) (drop-drop k at s)
 
-pub sign-of-part : (s : List ℕ) (at : ℕ) → getD (take 17 (drop at s)) 16 0 ≡ getD s (at + 16) 0
-sign-of-part s at = getD-take 17 (drop at s) 16 0 (omega arith) ∙ getD-drop at s 16 0
+pub sign-of-part : (s : List ℕ) (at : ℕ) → getD (take deltaWidth (drop at s)) 16 0 ≡ getD s (at + 16) 0
+sign-of-part s at = getD-take deltaWidth (drop at s) 16 0 (omega arith) ∙ getD-drop at s 16 0
 
-pub op-is : (s : List ℕ) (at : ℕ) (limit high low update : Number) → limit ≡ numberOf (valueOfWords (take 4 (drop at s))) → high ≡ numberOf (valueOfWords (take 4 (drop (at + 4) s))) → low ≡ numberOf (valueOfWords (take 4 (drop (at + 8) s))) → update ≡ numberOf (valueOfWords (take 4 (drop (at + 12) s))) → _≡_ {A = DeltaOp} (record { limit = limit; high = high; low = low; update = update; sign = getD s (at + 16) 0 }) (opAt (take 17 (drop at s)))
+pub op-is : (s : List ℕ) (at : ℕ) (limit high low update : Number) → limit ≡ numberOf (valueOfWords (take 4 (drop at s))) → high ≡ numberOf (valueOfWords (take 4 (drop (at + 4) s))) → low ≡ numberOf (valueOfWords (take 4 (drop (at + 8) s))) → update ≡ numberOf (valueOfWords (take 4 (drop (at + 12) s))) → _≡_ {A = DeltaOp} (record { limit = limit; high = high; low = low; update = update; sign = getD s (at + 16) 0 }) (opAt (take deltaWidth (drop at s)))
 unfolding opAt numberAt
 op-is s at limit high low update e₀ e₁ e₂ e₃ =
     λ i. record { limit = limit-is i; high = high-is i; low = low-is i; update = update-is i; sign = sign-is i }
   where
-    sign-is : getD s (at + 16) 0 ≡ getD (take 17 (drop at s)) 16 0
+    sign-is : getD s (at + 16) 0 ≡ getD (take deltaWidth (drop at s)) 16 0
     sign-is = sym (sign-of-part s at)
 
-    limit-is : limit ≡ numberOf (valueOfWords (take 4 (drop 0 (take 17 (drop at s)))))
-    limit-is = e₀ ∙ ap (λ (l : List ℕ). numberOf (valueOfWords l)) (sym (take-take 4 17 (drop at s) (omega arith)))
+    limit-is : limit ≡ numberOf (valueOfWords (take 4 (drop 0 (take deltaWidth (drop at s)))))
+    limit-is = e₀ ∙ ap (λ (l : List ℕ). numberOf (valueOfWords l)) (sym (take-take 4 deltaWidth (drop at s) (omega arith)))
 
-    high-is : high ≡ numberOf (valueOfWords (take 4 (drop 4 (take 17 (drop at s)))))
+    high-is : high ≡ numberOf (valueOfWords (take 4 (drop 4 (take deltaWidth (drop at s)))))
     high-is = e₁ ∙ ap (λ (l : List ℕ). numberOf (valueOfWords l)) (sym (part-of s at 4 13 (omega arith)))
 
-    low-is : low ≡ numberOf (valueOfWords (take 4 (drop 8 (take 17 (drop at s)))))
+    low-is : low ≡ numberOf (valueOfWords (take 4 (drop 8 (take deltaWidth (drop at s)))))
     low-is = e₂ ∙ ap (λ (l : List ℕ). numberOf (valueOfWords l)) (sym (part-of s at 8 9 (omega arith)))
 
-    update-is : update ≡ numberOf (valueOfWords (take 4 (drop 12 (take 17 (drop at s)))))
+    update-is : update ≡ numberOf (valueOfWords (take 4 (drop 12 (take deltaWidth (drop at s)))))
     update-is = e₃ ∙ ap (λ (l : List ℕ). numberOf (valueOfWords l)) (sym (part-of s at 12 5 (omega arith)))
 
 -- ---- checking
 
 module _ (s : List ℕ) (at : ℕ) where
-  pub checked-op : (o : DeltaOp) (t : Bool) → o ≡ opAt (take 17 (drop at s)) → t ≡ validOp o → t ≡ deltaOk (take 17 (drop at s))
-  checked-op o t e f = f ∙ ap validOp e ∙ validOp-opAt (take 17 (drop at s))
+  pub checked-op : (o : DeltaOp) (t : Bool) → o ≡ opAt (take deltaWidth (drop at s)) → t ≡ validOp o → t ≡ deltaOk (take deltaWidth (drop at s))
+  checked-op o t e f = f ∙ ap validOp e ∙ validOp-opAt (take deltaWidth (drop at s))
 
 -- ---- writing
 

@@ -11,11 +11,12 @@ use lib.IntN.{pos, negℤ, natAbs, _+ℤ_, +ℤ-comm}
 use lib.ListN.{getD}
 use mir.Val.{boolByte}
 use borrow.Author.Tests.{lt-leb, le-leb, leb-true, ltb-true, ltb-false, eqb-true, eqb-false, not-true, not-false}
+use Rattle.lists.proofs.Bools.{and-left, and-right}
 use Rattle.number.specs.declared.Number.{Number}
 use Rattle.number.specs.declared.Sum.{Sum}
 use Rattle.number.specs.declared.Sum.the-variants as Sums
 use Rattle.number.specs.Number.{Halves, range, valueOf, numberOf, sumOf}
-use Rattle.number.proofs.Halves.{valueOf-numberOf, numberOf-valueOf, halves-numberOf, value-below, total-sum, over-sum}
+use Rattle.number.proofs.Halves.{valueOf-numberOf, numberOf-valueOf, value-below, total-sum, over-sum}
 use Rattle.delta.specs.declared.DeltaOp.{DeltaOp}
 use Rattle.delta.specs.declared.Applied.the-variants.{Value, Outside}
 use Rattle.delta.specs.declared.Merged.{Merged}
@@ -28,10 +29,10 @@ use Rattle.delta.specs.declared.signed.Reach.{Reach}
 use Rattle.delta.specs.declared.signed.Reach.the-variants.{Within, Beyond}
 use Rattle.delta.specs.Delta.{Delta, valid, applyTo, greater, joined, merge, Accumulated, nothing, merged, failed, gathered, accumulate, validSoFar, isNegative, signed, signWord, numberAt, minusZero, minusAt, deltaAt, deltaOk}
 use Rattle.delta.specs.Op.{AllHalves, exact, opOf, validOp, opAt, appliedOf, mergedOf, exactly, accumulatorOf, changeOf, reachOf}
-use Rattle.delta.proofs.Gain.{from-sides, gain-neg, loss-neg, gain-signed, loss-signed, above-is, below-is}
-use Rattle.delta.proofs.Merging.{and-left, and-right, valid-bounds, bounds-valid, apply-some, apply-deep, apply-high, after-is, merge-some, merge-limits, merge-high, merge-low, joined-bounds, joined-limit}
-use Rattle.delta.proofs.Format.{size-signed, signed-back, minus-word, byte-sign, word-signed, no-minus-zero, sign-small, Small, valid-small, sign-back}
-use Rattle.delta.proofs.Sums.{IsChange, to-change, over-change, within-reach, beyond-reach}
+use Rattle.delta.proofs.DeltaGains.{from-sides, gain-neg, loss-neg, gain-signed, loss-signed, above-is, below-is}
+use Rattle.delta.proofs.DeltaMerges.{valid-bounds, bounds-valid, apply-some, apply-deep, apply-high, after-is, merge-some, merge-limits, merge-high, merge-low, joined-bounds, joined-limit}
+use Rattle.delta.proofs.DeltaFormat.{size-signed, signed-back, minus-word, byte-sign, word-signed, no-minus-zero, sign-small, valid-small}
+use Rattle.delta.proofs.DeltaSums.{IsChange, to-change, over-change, within-reach, beyond-reach}
 
 -- ---- there and back
 
@@ -68,24 +69,9 @@ pub exact-opAt : (ws : List ℕ) → exact (opAt ws) ≡ deltaAt ws
 unfolding exact opAt deltaAt minusAt
 exact-opAt ws = λ i. record { limit = valueOf-numberOf (numberAt ws 0) i; high = valueOf-numberOf (numberAt ws 4) i; low = valueOf-numberOf (numberAt ws 8) i; update = signed (minusAt ws) (valueOf-numberOf (numberAt ws 12) i) }
 
-pub opAt-opOf : (ws : List ℕ) → deltaOk ws ≡ true → opAt ws ≡ opOf (deltaAt ws)
-unfolding opAt opOf deltaAt
-opAt-opOf ws ok = λ i. record { limit = numberOf (numberAt ws 0); high = numberOf (numberAt ws 4); low = numberOf (numberAt ws 8); update = numberOf (size i); sign = sign i }
-  where
-    size : numberAt ws 12 ≡ natAbs (signed (minusAt ws) (numberAt ws 12))
-    size = sym (size-signed (minusAt ws) (numberAt ws 12))
-
-    sign : getD ws 16 0 ≡ signWord (signed (minusAt ws) (numberAt ws 12))
-    sign = sym (sign-back ws ok)
-
 pub validOp-opOf : (d : Delta) → valid d ≡ true → validOp (opOf d) ≡ true
 unfolding validOp opOf
 validOp-opOf d v = rw (exact-opOf d, v, sign-small (d .update), minus-word (d .update), valueOf-numberOf (natAbs (d .update)), no-minus-zero (d .update))
-
-pub halves-opOf : (d : Delta) → Small d → AllHalves (opOf d)
-unfolding opOf
-halves-opOf d s =
-    record { limit = halves-numberOf _ (s .limit); high = halves-numberOf _ (s .high); low = halves-numberOf _ (s .low); update = halves-numberOf _ (s .update) }
 
 -- what is read is valid exactly if the words are a delta
 pub validOp-opAt : (ws : List ℕ) → validOp (opAt ws) ≡ deltaOk ws
@@ -94,26 +80,6 @@ validOp-opAt ws =
     ap₂ (λ (x : ℕ) (d : Delta). leb (getD ws 16 0) 1 && not (minusZero (isNegative (getD ws 16 0)) x) && valid d) (valueOf-numberOf (numberAt ws 12)) (exact-opAt ws)
 
 -- ---- what a caller learns of an answer
-
-pub value-some : (m : Option ℕ) (n : Number) → appliedOf m ≡ Value n → m ≡ some (valueOf n)
-unfolding appliedOf
-value-some (some v) n e = let k : numberOf v ≡ n = cc in ap some (sym (valueOf-numberOf v) ∙ ap valueOf k)
-value-some none n e = cc
-
-pub outside-none : (m : Option ℕ) → appliedOf m ≡ Outside → m ≡ none
-unfolding appliedOf
-outside-none (some v) e = cc
-outside-none none e = refl
-
-pub joined-some : (m : Option Delta) (o : DeltaOp) → mergedOf m ≡ Joined o → m ≡ some (exact o)
-unfolding mergedOf
-joined-some (some d) o e = let k : opOf d ≡ o = cc in ap some (sym (exact-opOf d) ∙ ap exact k)
-joined-some none o e = cc
-
-pub apart-none : (m : Option Delta) → mergedOf m ≡ Apart → m ≡ none
-unfolding mergedOf
-apart-none (some d) e = cc
-apart-none none e = refl
 
 pub exactly-accumulatorOf : (a : Accumulated) → exactly (accumulatorOf a) ≡ a
 unfolding exactly accumulatorOf

@@ -8,10 +8,11 @@ use native.Mathlib.Omega.{arith}
 use native.Mathlib.Numerals.{add-one}
 use lib.ListN.{length, getD, take, drop, set, length-set}
 use lib.Seq.{set-append-left, set-split}
-use Rattle.store.specs.Slots.{Slot, slotWidth, slotsIn, flat, encode, isWhole, every, written}
-use Rattle.store.proofs.Lists.{every-at, set-append-add}
-use Rattle.store.proofs.Words.{whole-length, flat-append, flat-at, length-flat-take}
-use Rattle.store.proofs.Encode.{free, encode-free, take-encode, drop-encode}
+use Rattle.lists.specs.Lists.{every}
+use Rattle.lists.proofs.Lists.{every-at, set-append-add}
+use Rattle.store.specs.Slots.{Slot, slotWidth, slotsIn, flat, encode, isWhole, written}
+use Rattle.store.proofs.StoreWords.{whole-length, flat-append, flat-at, length-flat-take}
+use Rattle.store.proofs.StoreEncoding.{free, encode-free, take-encode, drop-encode}
 
 flat-set : (i : ℕ) (u : Slot) (us : List Slot) → i < length us → flat (set us i u) ≡ flat (take i us) ++ (u ++ flat (drop (i + 1) us))
 unfolding flat

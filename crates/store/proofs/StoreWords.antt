@@ -9,8 +9,10 @@ use native.Mathlib.Omega.{arith}
 use lib.ListN.{length, getD, take, drop, replicate, length-append, length-drop, length-replicate, take-append-drop, List·getD-append}
 use lib.Seq.{length-take-le, take-nil, take-take, take-at, drop-at, drop-drop, take-add, getD-take, getD-drop}
 use borrow.Author.Tests.{eqb-true, eq-eqb}
-use Rattle.store.specs.Slots.{Slot, slotWidth, slotsIn, flat, slots, slotAt, isWhole, padded, every}
-use Rattle.store.proofs.Lists.{and-left, and-right, and-both, every-take, every-drop}
+use Rattle.lists.specs.Lists.{every}
+use Rattle.lists.proofs.Bools.{and-both, and-left, and-right}
+use Rattle.lists.proofs.Lists.{every-drop, every-take}
+use Rattle.store.specs.Slots.{Slot, slotWidth, slotsIn, flat, slots, slotAt, isWhole, padded}
 
 -- a slot's words are inside the store
 pub slot-inside : (i w : ℕ) → i < slotsIn w → slotWidth * i + slotWidth ≤ w

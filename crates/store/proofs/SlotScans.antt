@@ -10,11 +10,13 @@ use lib.Dec.{eqb}
 use lib.ListN.{length, getD, take, drop}
 use lib.Seq.{drop-drop, drop-cons, append-snoc}
 use borrow.Author.Tests.{eq-eqb, ne-eqb}
-use Rattle.store.specs.Slots.{Slot, slotWidth, slotsIn, slots, slotAt, isUsed, held, every, neighbours, joined, allZero, isZeroFrom, packed, sound, isWhole, encode, isBefore, ordered}
-use Rattle.store.proofs.Lists.{and-left, and-right, and-both, and-swap, true-not-false, every-append, every-at}
-use Rattle.store.proofs.Words.{drop-take, length-slots, slots-more}
-use Rattle.store.proofs.Encode.{held-at, held-slots, held-long, held-stop, held-fits, held-encode, zero-from-encode}
-use Rattle.store.proofs.Order.{neighbours-imp, neighbours-at, neighbours-snoc, ordered-is-neighbours}
+use Rattle.lists.specs.Lists.{every}
+use Rattle.lists.proofs.Bools.{and-both, and-left, and-right, and-swap, true-not-false}
+use Rattle.lists.proofs.Lists.{every-append, every-at}
+use Rattle.store.specs.Slots.{Slot, slotWidth, slotsIn, slots, slotAt, isUsed, held, neighbours, joined, allZero, isZeroFrom, sound}
+use Rattle.store.proofs.StoreWords.{drop-take, length-slots, slots-more}
+use Rattle.store.proofs.StoreEncoding.{held-at, held-slots, held-long, held-stop, held-fits}
+use Rattle.store.proofs.SlotOrder.{neighbours-at, neighbours-snoc}
 
 module _ (s : List ℕ) (i to : ℕ) (some : i < to) (inside : to ≤ length s) where
   zero-cons : allZero (take (to - i) (drop i s)) ≡ (eqb (getD s i 0) 0 && allZero (take (to - (i + 1)) (drop (i + 1) s)))
@@ -202,15 +204,3 @@ module _ (ok : Slot → Bool) (pair : Slot → Slot → Bool) (s : List ℕ) whe
   sound-neighbours e =
       and-right (every ok (held s)) (neighbours pair (held s))
       (and-right (isZeroFrom (length (held s)) s) (every ok (held s) && neighbours pair (held s)) e)
-
-  -- neighbours that are in order make a packed store
-  pub sound-packed : ((u v : Slot) → pair u v ≡ true → isBefore u v ≡ true) → sound ok pair s ≡ true → packed s ≡ true
-  unfolding packed
-  sound-packed h e =
-      and-both (isZeroFrom (length (held s)) s) (ordered (held s)) (sound-zero e)
-      (ordered-is-neighbours (held s) ∙ neighbours-imp pair isBefore h (held s) (sound-neighbours e))
-
-  pub sound-encode : (us : List Slot) → every isWhole us ≡ true → length us ≤ slotsIn (length s) → every isUsed us ≡ true →
-      sound ok pair (encode s us) ≡ (every ok us && neighbours pair us)
-  unfolding sound
-  sound-encode us w h e = rw (held-encode s us w h e, zero-from-encode s us w h)

@@ -8,7 +8,7 @@ use native.Mathlib.Numerals.{add-one}
 use lib.ListN.{length, getD, take, drop, set, replicate, length-append, length-drop, length-replicate, take-append-drop, getD-replicate, List·getD-append}
 use lib.Seq.{length-take-le, take-suc, drop-cons, append-snoc, take-at, drop-at, drop-drop, getD-take, getD-drop, set-at, take-all, getD-append-add}
 use Rattle.store.specs.Slots.{slotWidth, slotsIn, opened, cleared, closed, written}
-use Rattle.store.proofs.Words.{slots-inside}
+use Rattle.store.proofs.StoreWords.{slots-inside}
 
 -- The first n words of `w` written over those of `d` from index `at`.
 unfoldable pub copied : List ℕ → ℕ → List ℕ → ℕ → List ℕ

@@ -11,12 +11,13 @@ use lib.ListN.{length, take, drop, getD, length-drop}
 use lib.Seq.{take-all, take-add, take-suc, length-take-le}
 use mir.Val.{boolByte}
 use borrow.Author.Tests.{leb-true, eq-eqb, ne-eqb}
+use Rattle.lists.proofs.Bools.{and-left, and-right}
 use Rattle.number.specs.Words.{digits, valueOfWords, AreWords}
 use Rattle.number.specs.Number.{range}
 use Rattle.number.proofs.Digits.{words-digits, digits-value, value-four, four-below, words-append, words-take, words-drop}
-use Rattle.delta.specs.Delta.{Delta, valid, isMinus, isNegative, signed, signWord, numberAt, minusZero, minusAt, deltaAt, deltaOk, deltaWords}
-use Rattle.delta.proofs.Gain.{size-sides, one-side, gain-signed, loss-signed}
-use Rattle.delta.proofs.Merging.{and-left, and-right, valid-bounds}
+use Rattle.delta.specs.Delta.{deltaWidth, Delta, valid, isMinus, isNegative, signed, signWord, numberAt, minusZero, minusAt, deltaAt, deltaOk, deltaWords}
+use Rattle.delta.proofs.DeltaGains.{size-sides, one-side, gain-signed, loss-signed}
+use Rattle.delta.proofs.DeltaMerges.{valid-bounds}
 
 -- ---- signs
 
@@ -80,7 +81,7 @@ word-signed s n h z = rw (minus-signed (isNegative s) n z) (word-of-sign s h)
 
 -- ---- the parts of the words
 
-pub length-deltaWords : (d : Delta) → length (deltaWords d) ≡ 17
+pub length-deltaWords : (d : Delta) → length (deltaWords d) ≡ deltaWidth
 unfolding deltaWords digits
 length-deltaWords d = refl
 
@@ -108,10 +109,10 @@ minus-part : (d : Delta) → minusAt (deltaWords d) ≡ isMinus (d .update)
 unfolding minusAt
 minus-part d = ap isNegative (sign-part d) ∙ minus-word (d .update)
 
-parts : (ws : List ℕ) → length ws ≡ 17 → take 4 (drop 0 ws) ++ take 4 (drop 4 ws) ++ take 4 (drop 8 ws) ++ take 4 (drop 12 ws) ++ (getD ws 16 0 ∷ []) ≡ ws
+parts : (ws : List ℕ) → length ws ≡ deltaWidth → take 4 (drop 0 ws) ++ take 4 (drop 4 ws) ++ take 4 (drop 8 ws) ++ take 4 (drop 12 ws) ++ (getD ws 16 0 ∷ []) ≡ ws
 parts ws e =
     sym
-    (sym (take-all 17 ws (omega arith)) ∙ take-suc ws 16 0 (omega arith)
+    (sym (take-all deltaWidth ws (omega arith)) ∙ take-suc ws 16 0 (omega arith)
     ∙ ap (λ (l : List ℕ). l ++ (getD ws 16 0 ∷ []))
     (take-add 12 4 ws ∙ ap (λ (l : List ℕ). l ++ take 4 (drop 12 ws)) (take-add 8 4 ws ∙ ap (λ (l : List ℕ). l ++ take 4 (drop 8 ws)) (take-add 4 4 ws))))
 
@@ -198,7 +199,7 @@ module _ (ws : List ℕ) (ok : deltaOk ws ≡ true) where
   unfolding minusAt
   sign-back = word-signed (getD ws 16 0) (numberAt ws 12) ok-sign ok-zero
 
-module _ (ws : List ℕ) (g : AreWords ws) (e : length ws ≡ 17) where
+module _ (ws : List ℕ) (g : AreWords ws) (e : length ws ≡ deltaWidth) where
   part-four : (k : ℕ) → k ≤ 13 → length (take 4 (drop k ws)) ≡ 4
   part-four k h = length-take-le 4 (drop k ws) (rw length-drop (omega arith))
 

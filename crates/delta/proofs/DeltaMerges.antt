@@ -11,18 +11,11 @@ use lib.Dec.{leb, eqb}
 use lib.IntN.{ℤ, pos, negℤ, natAbs, _+ℤ_, _-ℤ_}
 use lib.Signed.{leZ}
 use borrow.Author.Tests.{le-leb, lt-leb, leb-true, eq-eqb, ne-eqb}
+use Rattle.lists.proofs.Bools.{and-left, and-right}
 use Rattle.delta.specs.Delta.{Delta, valid, applyTo, applyNext, joined, mergeable, merge, Accumulated, nothing, merged, failed, gathered, accumulate, validSoFar}
-use Rattle.delta.proofs.Gain.{gain, loss, from-sides, size-sides, gain-sum, loss-sum, gain-neg, loss-neg, gain-pos, loss-pos, greater-is, above-is, below-is}
+use Rattle.delta.proofs.DeltaGains.{gain, loss, size-sides, gain-sum, loss-sum, gain-neg, loss-neg, gain-pos, loss-pos, greater-is, above-is, below-is}
 
 -- ---- valid deltas
-
-pub and-left : (a b : Bool) → (a && b) ≡ true → a ≡ true
-and-left true b e = refl
-and-left false b e = e
-
-pub and-right : (a b : Bool) → (a && b) ≡ true → b ≡ true
-and-right true b e = e
-and-right false b e = absurd (let z : _≡_ {A = ℕ} 0 1 = cc in omega arith)
 
 -- what a valid delta keeps to
 pub record Bounds (d : Delta) : Type 0 where
@@ -75,14 +68,6 @@ size-after v u =
 -- where a valid delta applies, nothing goes below zero
 pub after-is : (d : Delta) (v : ℕ) → Bounds d → d .low ≤ v → natAbs (pos v +ℤ d .update) ≡ v + gain (d .update) - loss (d .update)
 after-is d v w p = size-after v (d .update) ∙ omega (arith, w .deep)
-
--- so what `applyTo` gives is v + u itself
-pub apply-exact : (d : Delta) (v : ℕ) → valid d ≡ true → d .low ≤ v → pos (natAbs (pos v +ℤ d .update)) ≡ pos v +ℤ d .update
-apply-exact d v e p =
-    let w = valid-bounds d e in
-    from-sides _ _
-    (gain-pos _ ∙ after-is d v w p ∙ sym (gain-sum (pos v) (d .update) ∙ rw (gain-pos v, loss-pos v) (omega arith)))
-    (loss-pos _ ∙ sym (loss-sum (pos v) (d .update) ∙ rw (gain-pos v, loss-pos v) (omega (arith, w .deep))))
 
 -- ---- what merging gives, as naturals
 

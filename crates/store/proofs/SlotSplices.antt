@@ -1,7 +1,7 @@
 -- A run of slots replaced: the words that the edits leave are the encoding of the spliced list of slots.
 -- Assumes nothing.
 use mathlib.Core.Path.{_≡_, refl, sym, _∙_, ap}
-use mathlib.Core.Bool.{Bool, true}
+use mathlib.Core.Bool.{true}
 use mathlib.Core.List.{List, [], _∷_, _++_, map, map-append, append-assoc, append-nil}
 use Prim.Native.Nat.{ℕ, _+_, _-_, _*_, _≤_, _<_}
 use native.Mathlib.Omega.{arith}
@@ -9,12 +9,13 @@ use native.Mathlib.Decide.{decLe}
 use lib.ListN.{length, take, drop, replicate, length-append, length-drop, length-replicate, take-append-drop}
 use lib.Seq.{length-take-le, take-at, drop-at, drop-drop, take-take, take-append-le}
 use borrow.Author.Tests.{le-leb, lt-leb}
-use Rattle.store.specs.Slots.{Slot, slotWidth, slotsIn, flat, encode, isWhole, every, opened, closed, written}
+use Rattle.lists.specs.Lists.{every}
+use Rattle.lists.proofs.Lists.{map-drop, map-take}
+use Rattle.store.specs.Slots.{Slot, slotWidth, slotsIn, flat, encode, isWhole, opened, closed, written}
 use Rattle.store.specs.Runs.{spliced, resized, writtenFrom}
-use Rattle.store.proofs.Lists.{and-both, every-append, every-take, every-drop, map-take, map-drop}
-use Rattle.store.proofs.Words.{slots-inside, flat-append, length-flat, length-flat-drop}
-use Rattle.store.proofs.Encode.{free, encode-free, free-add, length-encode, take-encode, drop-encode, drop-encode-all}
-use Rattle.store.proofs.Moves.{shift}
+use Rattle.store.proofs.StoreWords.{slots-inside, flat-append, length-flat, length-flat-drop}
+use Rattle.store.proofs.StoreEncoding.{free, encode-free, free-add, length-encode, take-encode, drop-encode, drop-encode-all}
+use Rattle.store.proofs.SlotMoves.{shift}
 
 -- a splice of a list in three parts
 module _ {A : Type 0} where
@@ -41,13 +42,6 @@ module _ {A : Type 0} where
     length-spliced h =
         length-append (take i us) (new ++ drop (i + n) us)
         ∙ rw (length-take-le i us (omega arith), length-append new (drop (i + n) us), length-drop (i + n) us) (omega arith)
-
-    pub every-spliced : (p : A → Bool) → every p us ≡ true → every p new ≡ true → every p (spliced i n new us) ≡ true
-    unfolding spliced
-    every-spliced p e f =
-        every-append p (take i us) (new ++ drop (i + n) us)
-        ∙ and-both (every p (take i us)) (every p (new ++ drop (i + n) us)) (every-take p i us e)
-        (every-append p new (drop (i + n) us) ∙ and-both (every p new) (every p (drop (i + n) us)) f (every-drop p (i + n) us e))
 
 pub map-spliced : {A B : Type 0} (f : A → B) (i n : ℕ) (new us : List A) → map f (spliced i n new us) ≡ spliced i n (map f new) (map f us)
 unfolding spliced

@@ -17,8 +17,8 @@ use Rattle.delta.specs.declared.Accumulator.the-variants.{Empty, Failed}
 use Rattle.delta.specs.declared.lent.Absorbed.{Absorbed}
 use Rattle.delta.specs.Delta.{Delta, merge, Accumulated, nothing, failed, accumulate, accumulateAll, validSoFar}
 use Rattle.delta.specs.Op.{exact, validOp, exactly, accumulatorOf, keptOr, isJoined, mergedIf, absorbedOf, mergedOf, mergeOps, accumulateOp, validOps, foldRecords}
-use Rattle.delta.proofs.Merging.{accumulate-valid}
-use Rattle.delta.proofs.Ops.{validOp-valid, exactly-accumulatorOf}
+use Rattle.delta.proofs.DeltaMerges.{accumulate-valid}
+use Rattle.delta.proofs.DeltaOps.{validOp-valid, exactly-accumulatorOf}
 
 -- ---- a lent delta
 

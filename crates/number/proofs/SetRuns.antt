@@ -18,18 +18,6 @@ sets-append (x ∷ xs) ys l i = rw (add-suc, ← suc-add) (sets-append xs ys (se
 pub sets-then : (l l₁ xs ys : List ℕ) (i n : ℕ) → length xs ≡ n → l₁ ≡ sets l i xs → sets l₁ (i + n) ys ≡ sets l i (xs ++ ys)
 sets-then l l₁ xs ys i n e e₁ = rw (e₁, ← e) (sets-append xs ys l i)
 
--- the words before a run and after it are untouched
-pub sets-before : (vs l : List ℕ) (i j : ℕ) → j < i → getD (sets l i vs) j 0 ≡ getD l j 0
-sets-before [] l i j h = refl
-sets-before (v ∷ vs) l i j h =
-    sets-before vs (set l i v) (suc i) j (omega arith) ∙ getD-set-other l i j v 0 (λ e. absurd (omega arith))
-
-pub sets-after : (vs l : List ℕ) (i j : ℕ) → i + length vs ≤ j → getD (sets l i vs) j 0 ≡ getD l j 0
-sets-after [] l i j h = refl
-sets-after (v ∷ vs) l i j h =
-    let k : suc i + length vs ≤ j = omega (arith, rw (add-suc, ← suc-add) at h) in
-    sets-after vs (set l i v) (suc i) j k ∙ getD-set-other l i j v 0 (λ e. absurd (omega arith))
-
 -- a run is read back
 pub sets-part : (vs l : List ℕ) (i : ℕ) → i + length vs ≤ length l → take (length vs) (drop i (sets l i vs)) ≡ vs
 sets-part vs l i h =

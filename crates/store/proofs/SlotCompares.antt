@@ -8,9 +8,9 @@ use native.Mathlib.Omega.{arith}
 use lib.Dec.{ltb, eqb}
 use lib.ListN.{length, getD, take}
 use borrow.Author.Tests.{eq-eqb, ne-eqb, le-ltb}
+use Rattle.lists.proofs.Bools.{and-swap}
 use Rattle.store.specs.Slots.{Slot, slotWidth, slotsIn, slotAt, isUsed, before, isBefore, sameWords, isAt}
-use Rattle.store.proofs.Lists.{and-swap}
-use Rattle.store.proofs.Words.{slot-inside, length-slotAt, slotAt-word}
+use Rattle.store.proofs.StoreWords.{slot-inside, length-slotAt, slotAt-word}
 
 or-false : (a : Bool) → (a || false) ≡ a
 or-false true = refl

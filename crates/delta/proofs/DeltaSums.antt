@@ -1,7 +1,7 @@
 -- What the code's signed sums find.
 -- Assumes nothing.
-use mathlib.Core.Path.{_≡_, refl, sym, ap, ap₂, _∙_}
-use mathlib.Core.Bool.{Bool, true, false, not, cond, _&&_}
+use mathlib.Core.Path.{_≡_, sym, ap, ap₂, _∙_}
+use mathlib.Core.Bool.{Bool, true, false, cond}
 use Prim.Native.Nat.{ℕ, _+_, _-_, _≤_, _<_, max}
 use native.Mathlib.Decide.{decLe, decLt}
 use native.Mathlib.Omega.{arith}
@@ -21,8 +21,8 @@ use Rattle.delta.specs.declared.signed.Reach.{Reach}
 use Rattle.delta.specs.declared.signed.Reach.the-variants.{Within, Beyond}
 use Rattle.delta.specs.Delta.{greater, signed, isMinus}
 use Rattle.delta.specs.Op.{changeOf, reachOf}
-use Rattle.delta.proofs.Gain.{gain, loss, from-sides, size-sides, gain-sum, loss-sum, gain-neg, loss-neg, gain-pos, loss-pos, greater-is, gain-signed, loss-signed, minus-is}
-use Rattle.delta.proofs.Format.{size-signed, minus-signed, not-zero, zero-plus}
+use Rattle.delta.proofs.DeltaGains.{gain, loss, from-sides, size-sides, gain-sum, loss-sum, gain-neg, loss-neg, gain-pos, loss-pos, greater-is, gain-signed, loss-signed, minus-is}
+use Rattle.delta.proofs.DeltaFormat.{size-signed, minus-signed, not-zero, zero-plus}
 
 -- ---- a signed number as the code gives it
 
