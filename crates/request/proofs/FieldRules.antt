@@ -8,8 +8,8 @@ use lib.ListN.{getD, drop}
 use lib.Seq.{drop-drop}
 use borrow.Author.Tests.{le-leb, lt-leb, not-true, not-false}
 use Rattle.types.specs.Value.{valueWidth, valueAt, valueOk, isExchanged, isDeletion}
-use Rattle.request.specs.Table.{Exchange}
-use Rattle.request.specs.Request.{exchangedOk, rawOk, tagOk, fieldsOk}
+use Rattle.request.specs.Table.{Exchange, tagPlace}
+use Rattle.request.specs.Request.{rowAt, valueIn, exchangedOk, rawOk, tagOk, fieldsOk}
 use Rattle.request.specs.Fields.{sideOk, valuesOk}
 
 -- ---- one value: `w` are the words of the struct that was read, `v` those of the request
@@ -56,19 +56,24 @@ module _ (e : Bool) (t : List ℕ) (all-of : Bool) (place left : ℕ) (inv : all
 -- ---- kind 9
 
 module _ (t : List ℕ) where
-  pub exchange-tag : 63 < getD t 2 0 → false ≡ fieldsOk Exchange t
+  pub exchange-tag : 63 < getD t tagPlace 0 → false ≡ fieldsOk Exchange t
   unfolding fieldsOk tagOk
-  exchange-tag h = rw (lt-leb (getD t 2 0) 63 h) refl
+  exchange-tag h = rw (lt-leb (getD t tagPlace 0) 63 h) refl
 
-  module _ (tag : getD t 2 0 ≤ 63) (b : Bool) (o : b ≡ sideOk true (valueAt 3 t)) where
-    side-is : b ≡ exchangedOk (valueAt 3 t)
+  module _ (at : ℕ) (a : at ≡ rowAt t .value) (tag : getD t tagPlace 0 ≤ 63) (b : Bool) (o : b ≡ sideOk true (valueAt at t)) where
+    value-is : valueAt at t ≡ valueIn t
+    unfolding valueIn
+    value-is = ap (λ (n : ℕ). valueAt n t) a
+
+    side-is : b ≡ exchangedOk (valueIn t)
     unfolding sideOk
-    side-is = o
+    side-is = o ∙ ap exchangedOk value-is
 
     pub exchange-value : not b ≡ true → false ≡ fieldsOk Exchange t
     unfolding fieldsOk tagOk
-    exchange-value h = rw (le-leb (getD t 2 0) 63 tag, sym side-is ∙ not-true b h) refl
+    exchange-value h = rw (le-leb (getD t tagPlace 0) 63 tag, sym side-is ∙ not-true b h) refl
 
-    pub exchange-deletion : not b ≡ false → (d : Bool) → d ≡ isDeletion (valueAt 3 t) → not d ≡ fieldsOk Exchange t
+    pub exchange-deletion : not b ≡ false → (d : Bool) → d ≡ isDeletion (valueAt at t) → not d ≡ fieldsOk Exchange t
     unfolding fieldsOk tagOk
-    exchange-deletion h d f = rw (le-leb (getD t 2 0) 63 tag, sym side-is ∙ not-false b h, f) refl
+    exchange-deletion h d f =
+        rw (le-leb (getD t tagPlace 0) 63 tag, sym side-is ∙ not-false b h, f ∙ ap isDeletion value-is) refl

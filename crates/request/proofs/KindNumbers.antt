@@ -2,17 +2,16 @@
 use mathlib.Core.Path.{_≡_, refl, sym, ap, _∙_}
 use mathlib.Core.Bool.{Bool, true, _&&_}
 use mathlib.Core.List.{List, [], _∷_}
-use mathlib.Core.Option.{none}
 use Prim.Native.Nat.{ℕ, zero, suc, _+_, _<_}
 use native.Mathlib.Nat.{zero-add, add-zero, add-suc, suc-add}
 use native.Mathlib.Omega.{arith}
 use lib.Dec.{eqb}
 use lib.ListN.{length, getD}
 use borrow.Author.Tests.{eqb-true}
-use Rattle.request.specs.Table.{Kind, LastCommitted, Base, Write, AddDelta, Estimate, Remove, Fetch, Materialize, GroupBase, Exchange, GroupWrite, GroupEstimate, GroupRemove, GroupFetch, GroupSize, Finalize, Row, row, table, rowOf}
+use Rattle.lists.proofs.Bools.{and-left, and-right}
+use Rattle.request.specs.Table.{Kind, LastCommitted, Base, Write, AddDelta, Estimate, Remove, Fetch, Materialize, GroupBase, Exchange, GroupWrite, GroupEstimate, GroupRemove, GroupFetch, GroupSize, Finalize, Row, row, table, noRow, rowOf}
 use Rattle.request.specs.Request.{rowAt}
 use Rattle.request.specs.Fields.{kindAt}
-use Rattle.request.proofs.TableRule.{and-left, and-right}
 
 unfoldable pub numberOf : Kind → ℕ
 numberOf LastCommitted = 0
@@ -46,7 +45,7 @@ order-getD (r ∷ rs) d i (suc k) e h =
 
 pub row-number : (k : ℕ) → k < 16 → numberOf (rowOf k .kind) ≡ k
 unfolding inOrder numberOf rowOf table row
-row-number k h = rw zero-add at (order-getD table (row LastCommitted 1 0 none) 0 k refl h)
+row-number k h = rw zero-add at (order-getD table noRow 0 k refl h)
 
 module _ (t : List ℕ) (kind : ℕ) (e : kind ≡ kindAt t) where
   pub row-named : (n : ℕ) → kind ≡ n → rowAt t ≡ rowOf n

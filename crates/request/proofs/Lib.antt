@@ -1,12 +1,13 @@
-pub mod Asks
-pub mod Checks
+pub mod RequestAsks
+pub mod CheckAnswers
 mod FieldRules
-mod Indexes
+mod IndexRules
 pub mod KindNumbers
 pub mod KindRules
-pub mod Passes
-mod Samples
+pub mod CheckPasses
+mod CheckSamples
 pub mod Shapes
 pub mod TableRule
-pub mod Tags
+pub mod SetTags
+pub mod TableTails
 mod WordFields

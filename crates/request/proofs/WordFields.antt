@@ -4,11 +4,12 @@ use mathlib.Core.List.{List}
 use Prim.Native.Nat.{ℕ, _<_}
 use lib.ListN.{length, getD}
 use borrow.Author.Tests.{eq-eqb, ne-eqb}
-use Rattle.request.specs.Table.{rowOf}
+use Rattle.request.specs.Table.{rowOf, keyPlace, tagPlace, incarnationPlace}
 use Rattle.request.specs.Request.{rowAt}
-use Rattle.request.specs.Fields.{kindAt, indexAt, setAt, incarnationAs, tagAs, fieldsAt}
+use Rattle.request.specs.Fields.{kindAt, headAt, indexAt, setAt, incarnationAs, tagAs, fieldsAt}
 use Rattle.request.specs.declared.asked.Fields.{Fields}
 use Rattle.request.specs.declared.set.Set.{Set}
+use Rattle.request.specs.declared.head.Head.{Head}
 use Rattle.request.proofs.KindNumbers.{row-named}
 
 module _ (t : List ℕ) (kind : ℕ) (e : kind ≡ kindAt t) where
@@ -16,12 +17,12 @@ module _ (t : List ℕ) (kind : ℕ) (e : kind ≡ kindAt t) where
   pub fixed-named : (n : ℕ) → kind ≡ n → rowAt t .fixed < length t → rowOf n .fixed < length t
   fixed-named n f h = rw (row-named t kind e n f) at h
 
-  pub incarnation-write : kind ≡ 2 → getD t 3 0 ≡ incarnationAs (kindAt t) t
+  pub incarnation-write : kind ≡ 2 → getD t incarnationPlace 0 ≡ incarnationAs (kindAt t) t
   unfolding incarnationAs
   incarnation-write f = rw (eq-eqb (kindAt t) 2 (sym e ∙ f)) refl
 
   module _ (not-write : kind ≡ 2 → ⊥) where
-    pub incarnation-group : kind ≡ 10 → getD t 3 0 ≡ incarnationAs (kindAt t) t
+    pub incarnation-group : kind ≡ 10 → getD t incarnationPlace 0 ≡ incarnationAs (kindAt t) t
     unfolding incarnationAs
     incarnation-group f = rw (ne-eqb (kindAt t) 2 (λ g. not-write (e ∙ g)), eq-eqb (kindAt t) 10 (sym e ∙ f)) refl
 
@@ -29,12 +30,12 @@ module _ (t : List ℕ) (kind : ℕ) (e : kind ≡ kindAt t) where
     unfolding incarnationAs
     incarnation-none f = rw (ne-eqb (kindAt t) 2 (λ g. not-write (e ∙ g)), ne-eqb (kindAt t) 10 (λ g. f (e ∙ g))) refl
 
-  pub tag-exchange : kind ≡ 9 → getD t 2 0 ≡ tagAs (kindAt t) t
+  pub tag-exchange : kind ≡ 9 → getD t tagPlace 0 ≡ tagAs (kindAt t) t
   unfolding tagAs
   tag-exchange f = rw (eq-eqb (kindAt t) 9 (sym e ∙ f)) refl
 
   module _ (not-exchange : kind ≡ 9 → ⊥) where
-    pub tag-fetch : kind ≡ 13 → getD t 2 0 ≡ tagAs (kindAt t) t
+    pub tag-fetch : kind ≡ 13 → getD t tagPlace 0 ≡ tagAs (kindAt t) t
     unfolding tagAs
     tag-fetch f = rw (ne-eqb (kindAt t) 9 (λ g. not-exchange (e ∙ g)), eq-eqb (kindAt t) 13 (sym e ∙ f)) refl
 
@@ -42,11 +43,11 @@ module _ (t : List ℕ) (kind : ℕ) (e : kind ≡ kindAt t) where
     unfolding tagAs
     tag-none f = rw (ne-eqb (kindAt t) 9 (λ g. not-exchange (e ∙ g)), ne-eqb (kindAt t) 13 (λ g. f (e ∙ g))) refl
 
-pub fields-are : (t : List ℕ) (kind index incarnation tag : ℕ) (set : Set) → kind ≡ kindAt t → index ≡ indexAt t
+pub fields-are : (t : List ℕ) (head : Head) (index incarnation tag : ℕ) (set : Set) → head ≡ headAt t → index ≡ indexAt t
     → incarnation ≡ incarnationAs (kindAt t) t → tag ≡ tagAs (kindAt t) t → set ≡ setAt t
     → _≡_ {A = Fields}
-    (record { kind = kind; key = getD t 1 0; index = index; incarnation = incarnation; tag = tag; set = set })
+    (record { kind = head .kind; key = getD t keyPlace 0; index = index; incarnation = incarnation; tag = tag; value = head .row .value; set = set })
     (fieldsAt t)
-unfolding fieldsAt
-fields-are t kind index incarnation tag set a b c d e =
-    λ i. record { kind = a i; key = getD t 1 0; index = b i; incarnation = c i; tag = d i; set = e i }
+unfolding fieldsAt headAt
+fields-are t head index incarnation tag set a b c d e =
+    λ i. record { kind = a i .kind; key = getD t keyPlace 0; index = b i; incarnation = c i; tag = d i; value = a i .row .value; set = e i }

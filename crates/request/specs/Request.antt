@@ -2,37 +2,66 @@
 use mathlib.Core.Bool.{Bool, true, false, cond, not, _&&_}
 use mathlib.Core.List.{List, [], _∷_}
 use mathlib.Core.Option.{Option, none, some}
-use Prim.Native.Nat.{ℕ, zero, suc, _+_, _*_, _-_, _/_, _%_, _^_}
+use Prim.Native.Nat.{ℕ, _+_, _*_, _-_}
 use lib.Dec.{leb, ltb, eqb}
-use lib.ListN.{length, getD, take, drop}
+use lib.ListN.{length, getD, drop}
 use Rattle.delta.specs.Delta.{Delta, deltaAt, deltaOk}
 use Rattle.types.specs.Value.{valueAt, valueOk, isExchanged, isDeletion}
-use Rattle.request.specs.Table.{Kind, LastCommitted, Base, Write, AddDelta, Estimate, Remove, Fetch, Materialize, GroupBase, Exchange, GroupWrite, GroupEstimate, GroupRemove, GroupFetch, GroupSize, Finalize, Purpose, Edits, Reads, Materializes, Finalizes, IndexField, Row, rowOf}
+use Rattle.types.specs.Response.{kindIn, countIn}
+use Rattle.types.specs.Refusal.{wrongCount, badField, indexTooHigh}
+use Rattle.request.specs.Table.{Kind, LastCommitted, Base, Write, AddDelta, Estimate, Remove, Fetch, Materialize, GroupBase, Exchange, GroupWrite, GroupEstimate, GroupRemove, GroupFetch, GroupSize, Finalize, Purpose, Edits, Reads, Materializes, Finalizes, IndexField, Tail, alone, bySet, byCount, absent, Row, rowOf, keyPlace, indexPlace, tagPlace, taggedIndexPlace, incarnationPlace}
 use Rattle.request.specs.Set.{tagsOf, Member, membersOf}
 
 -- "Ticket head: bits 28-31 kind, bits 0-27 count of words after it."
 unfoldable pub rowAt : List ℕ → Row
-rowAt t = rowOf (getD t 0 0 / 2 ^ 28)
+rowAt t = rowOf (kindIn (getD t 0 0))
 
 unfoldable pub countOf : List ℕ → ℕ
-countOf t = getD t 0 0 % 2 ^ 28
+countOf t = countIn (getD t 0 0)
 
 -- The set is the last two of a kind's fixed words; a kind without one has no tags.
 unfoldable pub tagsAt : ℕ → List ℕ → List ℕ
 tagsAt fixed t = tagsOf (getD t (fixed - 1) 0) (getD t fixed 0)
 
+unfoldable pub tagsBy : Tail → ℕ → List ℕ → List ℕ
+tagsBy alone fixed t = []
+tagsBy (bySet each) fixed t = tagsAt fixed t
+tagsBy (byCount place most each) fixed t = []
+tagsBy absent fixed t = []
+
 unfoldable pub tags : List ℕ → List ℕ
-tags t = cond (eqb (rowAt t .each) 0) [] (tagsAt (rowAt t .fixed) t)
+tags t = tagsBy (rowAt t .tail) (rowAt t .fixed) t
+
+-- The value of a request, the words of its delta, and the values of its tags.
+unfoldable pub valueIn : List ℕ → List ℕ
+valueIn t = valueAt (rowAt t .value) t
+
+unfoldable pub deltaIn : List ℕ → List ℕ
+deltaIn t = drop (rowAt t .value) t
 
 unfoldable pub members : List ℕ → List Member
-members t = membersOf (tags t) (drop (rowAt t .fixed + 1) t)
+members t = membersOf (tags t) (drop (rowAt t .value) t)
 
--- 2: "empty, or count wrong for the kind or the words handed in". The words must hold the set before it is counted.
+-- How many words a tail has, and whether it may be.
+unfoldable pub tailLength : Tail → ℕ → List ℕ → ℕ
+tailLength alone fixed t = 0
+tailLength (bySet each) fixed t = each * length (tagsAt fixed t)
+tailLength (byCount place most each) fixed t = each * getD t place 0
+tailLength absent fixed t = 0
+
+unfoldable pub tailOk : Tail → List ℕ → Bool
+tailOk alone t = true
+tailOk (bySet each) t = true
+tailOk (byCount place most each) t = leb (getD t place 0) most
+tailOk absent t = false
+
+-- Whether a head counts the words of its kind.
+unfoldable pub countOk : Tail → ℕ → List ℕ → Bool
+countOk tail fixed t = tailOk tail t && eqb (countOf t) (fixed + tailLength tail fixed t)
+
+-- 2: "empty, or count wrong for the kind or the words handed in". The fixed words must be there before a set or a count among them is read.
 unfoldable pub shapeOk : List ℕ → Bool
-shapeOk t =
-    ltb (rowAt t .fixed) (length t)
-    && eqb (length t) (countOf t + 1)
-    && eqb (countOf t) (rowAt t .fixed + rowAt t .each * length (tags t))
+shapeOk t = ltb (rowAt t .fixed) (length t) && eqb (length t) (countOf t + 1) && countOk (rowAt t .tail) (rowAt t .fixed) t
 
 unfoldable pub exchangedOk : List ℕ → Bool
 exchangedOk v = valueOk v && isExchanged v
@@ -51,19 +80,19 @@ all f (m ∷ ms) = f (m .value) && all f ms
 -- 3: "a field breaks its rule". The fields are those of the table, with its words "exchanged", "raw" and "no deletion".
 unfoldable pub fieldsOk : Kind → List ℕ → Bool
 fieldsOk LastCommitted t = true
-fieldsOk Base t = valueOk (valueAt 2 t)
-fieldsOk Write t = exchangedOk (valueAt 4 t)
-fieldsOk AddDelta t = deltaOk (drop 3 t)
+fieldsOk Base t = valueOk (valueIn t)
+fieldsOk Write t = exchangedOk (valueIn t)
+fieldsOk AddDelta t = deltaOk (deltaIn t)
 fieldsOk Estimate t = true
 fieldsOk Remove t = true
 fieldsOk Fetch t = true
 fieldsOk Materialize t = true
 fieldsOk GroupBase t = all rawOk (members t)
-fieldsOk Exchange t = tagOk (getD t 2 0) && exchangedOk (valueAt 3 t) && not (isDeletion (valueAt 3 t))
+fieldsOk Exchange t = tagOk (getD t tagPlace 0) && exchangedOk (valueIn t) && not (isDeletion (valueIn t))
 fieldsOk GroupWrite t = all exchangedOk (members t)
 fieldsOk GroupEstimate t = true
 fieldsOk GroupRemove t = true
-fieldsOk GroupFetch t = tagOk (getD t 2 0)
+fieldsOk GroupFetch t = tagOk (getD t tagPlace 0)
 fieldsOk GroupSize t = true
 fieldsOk Finalize t = true
 
@@ -84,7 +113,7 @@ indexOk t = indexIn (rowAt t .index) t
 
 -- "The lowest number that applies is given"; 0 where none of 2, 3 and 4 does.
 unfoldable pub refusalOf : List ℕ → ℕ
-refusalOf t = cond (shapeOk t) (cond (fieldsOk (rowAt t .kind) t) (cond (indexOk t) 0 4) 3) 2
+refusalOf t = cond (shapeOk t) (cond (fieldsOk (rowAt t .kind) t) (cond (indexOk t) 0 indexTooHigh) badField) wrongCount
 
 -- What a request asks: its fields by the table, values as their words.
 pub data Request : Type 0 where
@@ -101,22 +130,22 @@ pub data Request : Type 0 where
   groupSize finalize : (key index : ℕ) → Request
 
 unfoldable pub requestAs : Kind → List ℕ → Request
-requestAs LastCommitted t = lastCommitted (getD t 1 0)
-requestAs Base t = base (getD t 1 0) (valueAt 2 t)
-requestAs Write t = write (getD t 1 0) (getD t 2 0) (getD t 3 0) (valueAt 4 t)
-requestAs AddDelta t = addDelta (getD t 1 0) (getD t 2 0) (deltaAt (drop 3 t))
-requestAs Estimate t = estimate (getD t 1 0) (getD t 2 0)
-requestAs Remove t = remove (getD t 1 0) (getD t 2 0)
-requestAs Fetch t = fetch (getD t 1 0) (getD t 2 0)
-requestAs Materialize t = materialize (getD t 1 0) (getD t 2 0)
-requestAs GroupBase t = groupBase (getD t 1 0) (members t)
-requestAs Exchange t = exchange (getD t 1 0) (getD t 2 0) (valueAt 3 t)
-requestAs GroupWrite t = groupWrite (getD t 1 0) (getD t 2 0) (getD t 3 0) (members t)
-requestAs GroupEstimate t = groupEstimate (getD t 1 0) (getD t 2 0)
-requestAs GroupRemove t = groupRemove (getD t 1 0) (getD t 2 0)
-requestAs GroupFetch t = groupFetch (getD t 1 0) (getD t 2 0) (getD t 3 0)
-requestAs GroupSize t = groupSize (getD t 1 0) (getD t 2 0)
-requestAs Finalize t = finalize (getD t 1 0) (getD t 2 0)
+requestAs LastCommitted t = lastCommitted (getD t keyPlace 0)
+requestAs Base t = base (getD t keyPlace 0) (valueIn t)
+requestAs Write t = write (getD t keyPlace 0) (getD t indexPlace 0) (getD t incarnationPlace 0) (valueIn t)
+requestAs AddDelta t = addDelta (getD t keyPlace 0) (getD t indexPlace 0) (deltaAt (deltaIn t))
+requestAs Estimate t = estimate (getD t keyPlace 0) (getD t indexPlace 0)
+requestAs Remove t = remove (getD t keyPlace 0) (getD t indexPlace 0)
+requestAs Fetch t = fetch (getD t keyPlace 0) (getD t indexPlace 0)
+requestAs Materialize t = materialize (getD t keyPlace 0) (getD t indexPlace 0)
+requestAs GroupBase t = groupBase (getD t keyPlace 0) (members t)
+requestAs Exchange t = exchange (getD t keyPlace 0) (getD t tagPlace 0) (valueIn t)
+requestAs GroupWrite t = groupWrite (getD t keyPlace 0) (getD t indexPlace 0) (getD t incarnationPlace 0) (members t)
+requestAs GroupEstimate t = groupEstimate (getD t keyPlace 0) (getD t indexPlace 0)
+requestAs GroupRemove t = groupRemove (getD t keyPlace 0) (getD t indexPlace 0)
+requestAs GroupFetch t = groupFetch (getD t keyPlace 0) (getD t tagPlace 0) (getD t taggedIndexPlace 0)
+requestAs GroupSize t = groupSize (getD t keyPlace 0) (getD t indexPlace 0)
+requestAs Finalize t = finalize (getD t keyPlace 0) (getD t indexPlace 0)
 
 unfoldable pub requestOf : List ℕ → Request
 requestOf t = requestAs (rowAt t .kind) t

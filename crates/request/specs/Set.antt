@@ -1,5 +1,5 @@
 -- 01: "A tag is 0 to 63. A set is two words, bit n for tag n, low word first; values follow in rising tag order."
-use mathlib.Core.Bool.{Bool, false, cond, _||_}
+use mathlib.Core.Bool.{cond}
 use mathlib.Core.List.{List, [], _∷_, _++_}
 use Prim.Native.Nat.{ℕ, zero, suc, _/_, _%_}
 use lib.Dec.{eqb}
@@ -14,10 +14,6 @@ tagsFrom (suc n) t w = let rest = tagsFrom n (suc t) (w / 2) in cond (eqb (w % 2
 -- The tags of a set, in rising order.
 unfoldable pub tagsOf : ℕ → ℕ → List ℕ
 tagsOf low high = tagsFrom 32 0 low ++ tagsFrom 32 32 high
-
-unfoldable pub hasTag : ℕ → List ℕ → Bool
-hasTag tag [] = false
-hasTag tag (t ∷ ts) = eqb tag t || hasTag tag ts
 
 -- A tag and its value.
 pub record Member : Type 0 where

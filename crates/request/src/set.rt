@@ -4,7 +4,7 @@ ghost use mathlib.Core.Path.{_≡_};
 ghost use Prim.Native.Nat.{_-_, _^_, _<_};
 ghost use lib.Count.{trailingZeros};
 ghost use lib.ListN.{length, getD, drop};
-ghost use Rattle.request.specs.Set.{tagsOf, hasTag};
+ghost use Rattle.request.specs.Set.{tagsOf};
 
 pub struct Set {
     pub low: u32,
@@ -55,17 +55,5 @@ impl Set {
             };
         }
         self
-    }
-
-    pub fn contains(self, tag: u32) -> bool
-        ensures member { λ r. ⌜ r ≡ hasTag tag (tagsOf (self .low) (self .high)) ⌝ }
-    {
-        if tag < 32 {
-            return (self.low >> tag) % 2 == 1;
-        }
-        if tag < 64 {
-            return (self.high >> (tag - 32)) % 2 == 1;
-        }
-        false
     }
 }

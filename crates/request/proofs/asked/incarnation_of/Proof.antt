@@ -1,40 +1,28 @@
 use native.Mathlib.Omega.{arith}
 use Rattle.request.specs.Table.{row, rowOf, table}
-use Rattle.request.proofs.Shapes.{has-head}
 use Rattle.request.proofs.WordFields.{fixed-named, incarnation-write, incarnation-group, incarnation-none}
 use Rattle.request.proofs.asked.incarnation_of.Statement.{statement}
 use Rattle.request.proofs.asked.incarnation_of.Tie as tie
 
-kind-of-requires : tie.Need-kind-of-requires
-kind-of-requires c κs = has-head _ (c .before .pre)
-
 shared-slice-read-result : tie.Need-shared-slice-read-result
 unfolding rowOf table row
-shared-slice-read-result c =
-    omega (arith, fixed-named _ _ (c .before .before .kind-of .ensures) 2 (c .before .if1 .taken) (c .before .before .before .before .pre))
+shared-slice-read-result c = omega (arith, fixed-named _ _ (c .before .before .pre .0) 2 (c .before .if1 .taken) (c .before .before .pre .1))
 
 returns : tie.Need-returns
-returns c = incarnation-write _ _ (c .before .before .kind-of .ensures) (c .before .if1 .taken)
+returns c = incarnation-write _ _ (c .before .before .pre .0) (c .before .if1 .taken)
 
 shared-slice-read-result-2 : tie.Need-shared-slice-read-result-2
 unfolding rowOf table row
 shared-slice-read-result-2 c =
-    omega
-    (arith, fixed-named _ _ (c .before .before .before .kind-of .ensures) 10 (c .before .if2 .taken) (c .before .before .before .before .before .pre))
+    omega (arith, fixed-named _ _ (c .before .before .before .pre .0) 10 (c .before .if2 .taken) (c .before .before .before .pre .1))
 
 returns-2 : tie.Need-returns-2
-returns-2 c = incarnation-group _ _ (c .before .before .before .kind-of .ensures) (c .before .before .if1 .left) (c .before .if2 .taken)
+returns-2 c = incarnation-group _ _ (c .before .before .before .pre .0) (c .before .before .if1 .left) (c .before .if2 .taken)
 
 returns-3 : tie.Need-returns-3
-returns-3 c = incarnation-none _ _ (c .before .before .kind-of .ensures) (c .before .if1 .left) (c .if2 .left)
+returns-3 c = incarnation-none _ _ (c .before .before .pre .0) (c .before .if1 .left) (c .if2 .left)
 
 pub incarnation-of-spec : {M : Type 1} → statement M
 incarnation-of-spec =
     tie.close
-    (tie.spec
-    kind-of-requires
-    shared-slice-read-result
-    returns
-    shared-slice-read-result-2
-    returns-2
-    returns-3)
+    (tie.spec shared-slice-read-result returns shared-slice-read-result-2 returns-2 returns-3)

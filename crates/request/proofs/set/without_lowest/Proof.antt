@@ -1,5 +1,5 @@
 use borrow.Author.Needs.{needs}
-use Rattle.request.proofs.Tags.{lowest-lt, lowest-le, lowest-one}
+use Rattle.request.proofs.SetTags.{lowest-lt, lowest-le, lowest-one}
 use mathlib.Core.Path.{refl}
 use Rattle.request.proofs.set.without_lowest.Statement.{statement}
 use Rattle.request.proofs.set.without_lowest.Tie as tie

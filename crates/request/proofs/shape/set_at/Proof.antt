@@ -1,40 +1,34 @@
 use native.Mathlib.Omega.{arith}
-use Rattle.request.proofs.Shapes.{inside, set-none, set-words, has-head}
+use Rattle.request.proofs.Shapes.{fixed-few, fixed-inside, set-none, set-words, set-inside}
 use Rattle.request.proofs.shape.set_at.Statement.{statement}
 use Rattle.request.proofs.shape.set_at.Tie as tie
 
-row-at-requires : tie.Need-row-at-requires
-row-at-requires c κs = has-head _ (c .before .pre)
-
 returns : tie.Need-returns
-returns c = set-none _ _ (c .before .before .row-at .ensures) (c .if1 .taken)
+returns c = set-none _ _ (c .before .before .pre .0) (c .if1 .taken)
 
 sub-t5 : tie.Need-sub-t5
-sub-t5 c = omega (arith, (inside _ _ (c .before .before .row-at .ensures) (c .before .before .before .before .pre)) .some)
+sub-t5 c = omega (arith, set-inside _ _ (c .before .before .pre .0) (c .if1 .left))
 
 mul-t6 : tie.Need-mul-t6
-mul-t6 c = record { fits = omega (arith, (inside _ _ (c .before .before .row-at .ensures) (c .before .before .before .before .pre)) .few) }
+mul-t6 c = record { fits = omega (arith, fixed-few _ _ (c .before .before .pre .0)) }
 
 shared-slice-read-t8 : tie.Need-shared-slice-read-t8
 shared-slice-read-t8 c =
-    omega (arith, (inside _ _ (c .before .before .before .row-at .ensures) (c .before .before .before .before .before .pre)) .there)
+    let at-start = c .before .before .before in omega (arith, fixed-inside _ _ (at-start .pre .0) (at-start .pre .1))
 
 mul-t9 : tie.Need-mul-t9
-mul-t9 c =
-    record { fits = omega (arith, (inside _ _ (c .before .before .before .row-at .ensures) (c .before .before .before .before .before .pre)) .few) }
+mul-t9 c = record { fits = omega (arith, fixed-few _ _ (c .before .before .before .pre .0)) }
 
 shared-slice-read-t11 : tie.Need-shared-slice-read-t11
-shared-slice-read-t11 c =
-    (inside _ _ (c .before .before .before .before .row-at .ensures) (c .before .before .before .before .before .before .pre)) .there
+shared-slice-read-t11 c = let at-start = c .before .before .before .before in fixed-inside _ _ (at-start .pre .0) (at-start .pre .1)
 
 returns-2 : tie.Need-returns-2
-returns-2 c = set-words _ _ (c .before .before .before .before .row-at .ensures) (c .before .before .if1 .left)
+returns-2 c = set-words _ _ (c .before .before .before .before .pre .0) (c .before .before .if1 .left)
 
 pub set-at-spec : {M : Type 1} → statement M
 set-at-spec =
     tie.close
     (tie.spec
-    row-at-requires
     returns
     sub-t5
     mul-t6

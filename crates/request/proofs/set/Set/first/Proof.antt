@@ -1,7 +1,7 @@
 use borrow.Author.Needs.{needs}
 use native.Mathlib.Omega.{arith}
 use lib.Count.{trailing-le}
-use Rattle.request.proofs.Tags.{first-low, first-high}
+use Rattle.request.proofs.SetTags.{first-low, first-high}
 use Rattle.request.proofs.set.Set.first.Statement.{statement}
 use Rattle.request.proofs.set.Set.first.Tie as tie
 

@@ -1,6 +1,6 @@
 use borrow.Author.Needs.{needs}
 use native.Mathlib.Omega.{arith}
-use Rattle.request.proofs.Tags.{tags-count, tags-at-most}
+use Rattle.request.proofs.SetTags.{tags-count, tags-at-most}
 use Rattle.request.proofs.set.Set.len.Statement.{statement}
 use Rattle.request.proofs.set.Set.len.Tie as tie
 

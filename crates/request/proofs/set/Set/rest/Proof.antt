@@ -1,5 +1,5 @@
 use borrow.Author.Needs.{needs}
-use Rattle.request.proofs.Tags.{rest-low, rest-high, rest-empty}
+use Rattle.request.proofs.SetTags.{rest-low, rest-high, rest-empty}
 use Rattle.request.proofs.set.Set.rest.Statement.{statement}
 use Rattle.request.proofs.set.Set.rest.Tie as tie
 

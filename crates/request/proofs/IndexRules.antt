@@ -3,12 +3,12 @@ use mathlib.Core.Path.{_≡_, refl, sym, ap, _∙_}
 use mathlib.Core.Bool.{true}
 use mathlib.Core.List.{List}
 use mathlib.Core.Option.{Option, none, some}
-use Prim.Native.Nat.{ℕ}
+use Prim.Native.Nat.{ℕ, _≤_}
 use native.Mathlib.Omega.{arith}
 use lib.Dec.{leb}
 use lib.ListN.{getD}
 use borrow.Author.Tests.{ltb-true}
-use Rattle.request.specs.Table.{IndexField}
+use Rattle.request.specs.Table.{IndexField, longestOf, longestCount}
 use Rattle.request.specs.Request.{rowAt, indexIn, indexOk}
 use Rattle.request.specs.Rows.{placeOf, lastOf, layout}
 use Rattle.request.specs.Fields.{indexField, indexAt}
@@ -42,6 +42,10 @@ module _ (t : List ℕ) (row : CodeRow) (e : row ≡ layout (rowAt t)) where
 
   last-is : row .last ≡ lastOf (rowAt t .index)
   last-is = ap (λ (r : CodeRow). r .last) e
+
+  pub index-few : row .index ≤ longestCount
+  unfolding longestOf
+  index-few = omega (arith, place-is, row-at-bounds t .place-le, row-at-bounds t .longest-le)
 
   pub no-index : row .index ≡ 0 → true ≡ indexOk t
   unfolding indexOk

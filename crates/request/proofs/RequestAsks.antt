@@ -1,13 +1,13 @@
 -- What a request asks, from the fields that the code hands on.
 use mathlib.Core.Path.{_≡_, refl, sym, ap, _∙_}
 use mathlib.Core.List.{List}
-use Prim.Native.Nat.{ℕ, _+_}
+use Prim.Native.Nat.{ℕ}
 use lib.ListN.{getD, drop}
 use Rattle.delta.specs.Delta.{deltaAt}
 use Rattle.types.specs.Value.{valueAt}
-use Rattle.request.specs.Table.{at, row, table, rowOf}
+use Rattle.request.specs.Table.{at, row, table, rowOf, keyPlace, indexPlace, incarnationPlace}
 use Rattle.request.specs.Set.{tagsOf, membersOf}
-use Rattle.request.specs.Request.{rowAt, members, Request, lastCommitted, base, write, addDelta, estimate, remove, fetch, materialize, groupBase, exchange, groupWrite, groupEstimate, groupRemove, groupFetch, groupSize, finalize, requestAs, requestOf}
+use Rattle.request.specs.Request.{rowAt, valueIn, deltaIn, members, Request, lastCommitted, base, write, addDelta, estimate, remove, fetch, materialize, groupBase, exchange, groupWrite, groupEstimate, groupRemove, groupFetch, groupSize, finalize, requestAs, requestOf}
 use Rattle.request.specs.Fields.{kindAt, indexField, indexAt, setAt, incarnationAs, tagAs, fieldsAt}
 use Rattle.request.specs.declared.asked.Fields.{Fields}
 use Rattle.request.proofs.KindNumbers.{row-named}
@@ -18,10 +18,11 @@ fieldsWith : ℕ → List ℕ → Fields
 fieldsWith n t =
     record {
       kind = n;
-      key = getD t 1 0;
+      key = getD t keyPlace 0;
       index = indexField (rowOf n .index) t;
       incarnation = incarnationAs n t;
       tag = tagAs n t;
+      value = rowAt t .value;
       set = setAt t;
     }
 
@@ -41,10 +42,11 @@ module _ (t : List ℕ) (f : Fields) (e : f ≡ fieldsAt t) where
         ∙ (λ i.
         record {
           kind = kind-is i;
-          key = getD t 1 0;
+          key = getD t keyPlace 0;
           index = indexField (row-is i .index) t;
           incarnation = incarnationAs (kind-is i) t;
           tag = tagAs (kind-is i) t;
+          value = rowAt t .value;
           set = setAt t;
         })
 
@@ -53,25 +55,25 @@ module _ (t : List ℕ) (f : Fields) (e : f ≡ fieldsAt t) where
     unfolding requestOf
     request-is asked g = rw row-is (g ∙ sym (ap asked fields-with))
 
-    members-are : members t ≡ membersOf (tagsOf (setAt t .low) (setAt t .high)) (drop (rowOf n .fixed + 1) t)
-    unfolding members
-    members-are = rw (tags-setAt t, row-is) refl
+  members-are : members t ≡ membersOf (tagsOf (setAt t .low) (setAt t .high)) (drop (rowAt t .value) t)
+  unfolding members
+  members-are = rw (tags-setAt t) refl
 
   pub asks-last-committed : f .kind ≡ 0 → requestOf t ≡ lastCommitted (f .key)
   unfolding rowOf table row at requestAs fieldsWith indexField
   asks-last-committed k = request-is 0 k (λ (g : Fields). lastCommitted (g .key)) refl
 
-  pub asks-base : f .kind ≡ 1 → requestOf t ≡ base (f .key) (valueAt 2 t)
-  unfolding rowOf table row at requestAs fieldsWith indexField
-  asks-base k = request-is 1 k (λ (g : Fields). base (g .key) (valueAt 2 t)) refl
+  pub asks-base : f .kind ≡ 1 → requestOf t ≡ base (f .key) (valueAt (f .value) t)
+  unfolding rowOf table row at requestAs fieldsWith indexField valueIn
+  asks-base k = request-is 1 k (λ (g : Fields). base (g .key) (valueAt (g .value) t)) refl
 
-  pub asks-write : f .kind ≡ 2 → requestOf t ≡ write (f .key) (f .index) (f .incarnation) (valueAt 4 t)
-  unfolding rowOf table row at requestAs fieldsWith indexField incarnationAs
-  asks-write k = request-is 2 k (λ (g : Fields). write (g .key) (g .index) (g .incarnation) (valueAt 4 t)) refl
+  pub asks-write : f .kind ≡ 2 → requestOf t ≡ write (f .key) (f .index) (f .incarnation) (valueAt (f .value) t)
+  unfolding rowOf table row at requestAs fieldsWith indexField incarnationAs valueIn
+  asks-write k = request-is 2 k (λ (g : Fields). write (g .key) (g .index) (g .incarnation) (valueAt (g .value) t)) refl
 
-  pub asks-add-delta : f .kind ≡ 3 → requestOf t ≡ addDelta (f .key) (f .index) (deltaAt (drop 3 t))
-  unfolding rowOf table row at requestAs fieldsWith indexField
-  asks-add-delta k = request-is 3 k (λ (g : Fields). addDelta (g .key) (g .index) (deltaAt (drop 3 t))) refl
+  pub asks-add-delta : f .kind ≡ 3 → requestOf t ≡ addDelta (f .key) (f .index) (deltaAt (drop (f .value) t))
+  unfolding rowOf table row at requestAs fieldsWith indexField deltaIn
+  asks-add-delta k = request-is 3 k (λ (g : Fields). addDelta (g .key) (g .index) (deltaAt (drop (g .value) t))) refl
 
   pub asks-estimate : f .kind ≡ 4 → requestOf t ≡ estimate (f .key) (f .index)
   unfolding rowOf table row at requestAs fieldsWith indexField
@@ -89,21 +91,21 @@ module _ (t : List ℕ) (f : Fields) (e : f ≡ fieldsAt t) where
   unfolding rowOf table row at requestAs fieldsWith indexField
   asks-materialize k = request-is 7 k (λ (g : Fields). materialize (g .key) (g .index)) refl
 
-  pub asks-group-base : f .kind ≡ 8 → requestOf t ≡ groupBase (f .key) (membersOf (tagsOf (f .set .low) (f .set .high)) (drop 4 t))
+  pub asks-group-base : f .kind ≡ 8 → requestOf t ≡ groupBase (f .key) (membersOf (tagsOf (f .set .low) (f .set .high)) (drop (f .value) t))
   unfolding rowOf table row at requestAs fieldsWith indexField
   asks-group-base k =
-      request-is 8 k (λ (g : Fields). groupBase (g .key) (membersOf (tagsOf (g .set .low) (g .set .high)) (drop 4 t)))
-      (ap (groupBase (getD t 1 0)) (members-are 8 k))
+      request-is 8 k (λ (g : Fields). groupBase (g .key) (membersOf (tagsOf (g .set .low) (g .set .high)) (drop (g .value) t)))
+      (ap (groupBase (getD t keyPlace 0)) members-are)
 
-  pub asks-exchange : f .kind ≡ 9 → requestOf t ≡ exchange (f .key) (f .tag) (valueAt 3 t)
-  unfolding rowOf table row at requestAs fieldsWith indexField tagAs
-  asks-exchange k = request-is 9 k (λ (g : Fields). exchange (g .key) (g .tag) (valueAt 3 t)) refl
+  pub asks-exchange : f .kind ≡ 9 → requestOf t ≡ exchange (f .key) (f .tag) (valueAt (f .value) t)
+  unfolding rowOf table row at requestAs fieldsWith indexField tagAs valueIn
+  asks-exchange k = request-is 9 k (λ (g : Fields). exchange (g .key) (g .tag) (valueAt (g .value) t)) refl
 
-  pub asks-group-write : f .kind ≡ 10 → requestOf t ≡ groupWrite (f .key) (f .index) (f .incarnation) (membersOf (tagsOf (f .set .low) (f .set .high)) (drop 6 t))
+  pub asks-group-write : f .kind ≡ 10 → requestOf t ≡ groupWrite (f .key) (f .index) (f .incarnation) (membersOf (tagsOf (f .set .low) (f .set .high)) (drop (f .value) t))
   unfolding rowOf table row at requestAs fieldsWith indexField incarnationAs
   asks-group-write k =
-      request-is 10 k (λ (g : Fields). groupWrite (g .key) (g .index) (g .incarnation) (membersOf (tagsOf (g .set .low) (g .set .high)) (drop 6 t)))
-      (ap (groupWrite (getD t 1 0) (getD t 2 0) (getD t 3 0)) (members-are 10 k))
+      request-is 10 k (λ (g : Fields). groupWrite (g .key) (g .index) (g .incarnation) (membersOf (tagsOf (g .set .low) (g .set .high)) (drop (g .value) t)))
+      (ap (groupWrite (getD t keyPlace 0) (getD t indexPlace 0) (getD t incarnationPlace 0)) members-are)
 
   pub asks-group-estimate : f .kind ≡ 11 → requestOf t ≡ groupEstimate (f .key) (f .index)
   unfolding rowOf table row at requestAs fieldsWith indexField

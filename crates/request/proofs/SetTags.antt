@@ -1,18 +1,16 @@
 -- The tags of a set and the counts of its words' bits: the ones are as many as the tags, and the trailing zeros give the first.
 use mathlib.Core.Path.{_≡_, refl, sym}
-use mathlib.Core.Bool.{Bool, true, false, _||_, or-false}
 use mathlib.Core.List.{List, [], _∷_, _++_}
 use Prim.Native.Nat.{ℕ, zero, suc, _+_, _-_, _*_, _/_, _%_, _^_, _≤_, _<_}
-use native.Mathlib.Nat.{le-refl, div-one, zero-add, mod-eq-of-lt, one-mul, pow-suc, add-zero, add-suc, suc-add}
+use native.Mathlib.Nat.{le-refl, zero-add, mod-eq-of-lt, one-mul, pow-suc, add-zero, add-suc, suc-add}
 use native.Mathlib.Decide.{decLe, ℕ-discrete}
 use native.Mathlib.Omega.{arith}
 use lib.Arith.{lt-one}
 use lib.Count.{ones, ones-le, ones-step, trailingZeros, trailing-of-zero}
-use lib.Dec.{eqb}
 use lib.ListN.{length, getD, drop, length-append}
-use lib.Pow.{shr-shr, pow-mono}
-use borrow.Author.Tests.{eq-eqb, ne-eqb}
-use Rattle.request.specs.Set.{tagsFrom, tagsOf, hasTag}
+use lib.Pow.{pow-mono}
+use Rattle.types.specs.Response.{mostTags}
+use Rattle.request.specs.Set.{tagsFrom, tagsOf}
 
 half-lt : (n w : ℕ) → w < 2 ^ suc n → w / 2 < 2 ^ n
 half-lt n w h = let g : w < 2 ^ n * 2 = rw pow-suc at h in omega arith
@@ -117,7 +115,7 @@ module _ (low high : ℕ) (l : low < 2 ^ 32) (h : high < 2 ^ 32) where
   unfolding tagsOf
   tags-count = rw (length-append, tags-ones 32 0 low l, tags-ones 32 32 high h) refl
 
-  pub tags-at-most : ones low + ones high ≤ 64
+  pub tags-at-most : ones low + ones high ≤ mostTags
   tags-at-most = omega (arith, ones-le 32 low l, ones-le 32 high h)
 
   pub tags-low : 0 < low → tagsOf low high ≡ trailingZeros 32 low ∷ tagsOf (low - 2 ^ trailingZeros 32 low) high
@@ -132,13 +130,13 @@ module _ (low high : ℕ) (l : low < 2 ^ 32) (h : high < 2 ^ 32) where
   unfolding tagsOf
   tags-empty z y = let e : low ≡ 0 = omega arith in let f : high ≡ 0 = omega arith in rw (e, f, tags-none 32 0, tags-none 32 32) refl
 
-  pub first-low : 0 < low → trailingZeros 32 low ≡ getD (tagsOf low high) 0 64
+  pub first-low : 0 < low → trailingZeros 32 low ≡ getD (tagsOf low high) 0 mostTags
   first-low p = rw (tags-low p) refl
 
-  pub first-high : low ≤ 0 → 32 + trailingZeros 32 high ≡ getD (tagsOf low high) 0 64
+  pub first-high : low ≤ 0 → 32 + trailingZeros 32 high ≡ getD (tagsOf low high) 0 mostTags
   first-high z = go (decLe high 0)
     where
-      go : Dec (high ≤ 0) → 32 + trailingZeros 32 high ≡ getD (tagsOf low high) 0 64
+      go : Dec (high ≤ 0) → 32 + trailingZeros 32 high ≡ getD (tagsOf low high) 0 mostTags
       go (yes y) = let f : high ≡ 0 = omega arith in rw (tags-empty z y, f, trailing-of-zero 32) refl
       go (no y) = rw (tags-high z (omega arith)) refl
 
@@ -150,77 +148,6 @@ module _ (low high : ℕ) (l : low < 2 ^ 32) (h : high < 2 ^ 32) where
 
   pub rest-empty : low ≤ 0 → high ≤ 0 → tagsOf low high ≡ drop 1 (tagsOf low high)
   rest-empty z y = rw (tags-empty z y) refl
-
--- Whether a set has a tag is the tag's bit.
-has-below : (n t w s : ℕ) → s < t → hasTag s (tagsFrom n t w) ≡ false
-unfolding tagsFrom hasTag
-has-below zero t w s h = refl
-has-below (suc n) t w s h = go (has-below n (suc t) (w / 2) s (omega arith)) (ℕ-discrete (w % 2) 0)
-  where
-    go : hasTag s (tagsFrom n (suc t) (w / 2)) ≡ false → Dec (w % 2 ≡ 0) → hasTag s (tagsFrom (suc n) t w) ≡ false
-    go ih (yes e) = rw (tags-even n t w e) ih
-    go ih (no f) = rw (tags-odd n t w (odd w f), ne-eqb s t (omega arith)) ih
-
-has-above : (n t w s : ℕ) → t + n ≤ s → hasTag s (tagsFrom n t w) ≡ false
-unfolding tagsFrom hasTag
-has-above zero t w s h = refl
-has-above (suc n) t w s h = go (has-above n (suc t) (w / 2) s (omega arith)) (ℕ-discrete (w % 2) 0)
-  where
-    go : hasTag s (tagsFrom n (suc t) (w / 2)) ≡ false → Dec (w % 2 ≡ 0) → hasTag s (tagsFrom (suc n) t w) ≡ false
-    go ih (yes e) = rw (tags-even n t w e) ih
-    go ih (no f) = rw (tags-odd n t w (odd w f), ne-eqb s t (omega arith)) ih
-
-has-lowest : (n t w : ℕ) → hasTag t (tagsFrom (suc n) t w) ≡ eqb (w % 2) 1
-unfolding hasTag
-has-lowest n t w = go (ℕ-discrete (w % 2) 0)
-  where
-    go : Dec (w % 2 ≡ 0) → hasTag t (tagsFrom (suc n) t w) ≡ eqb (w % 2) 1
-    go (yes e) = rw (tags-even n t w e, e) (has-below n (suc t) (w / 2) t (omega arith))
-    go (no f) = rw (tags-odd n t w (odd w f), odd w f, eq-eqb t t refl) refl
-
-has-later : (n t w s : ℕ) → t < s → hasTag s (tagsFrom (suc n) t w) ≡ hasTag s (tagsFrom n (suc t) (w / 2))
-unfolding hasTag
-has-later n t w s h = go (ℕ-discrete (w % 2) 0)
-  where
-    go : Dec (w % 2 ≡ 0) → hasTag s (tagsFrom (suc n) t w) ≡ hasTag s (tagsFrom n (suc t) (w / 2))
-    go (yes e) = rw (tags-even n t w e) refl
-    go (no f) = rw (tags-odd n t w (odd w f), ne-eqb s t (omega arith)) refl
-
-pow-half : (w k : ℕ) → w / 2 ^ suc k ≡ w / 2 / 2 ^ k
-pow-half w k = let e : suc k ≡ 1 + k = omega arith in rw e (sym (shr-shr w 1 k))
-
-has-bit : (n t w k : ℕ) → k < n → hasTag (t + k) (tagsFrom n t w) ≡ eqb (w / 2 ^ k % 2) 1
-has-bit zero t w k h = absurd (omega arith)
-has-bit (suc n) t w zero h = rw (add-zero, div-one) (has-lowest n t w)
-has-bit (suc n) t w (suc k) h =
-    rw (has-later n t w (t + suc k) (omega arith), add-suc, ← suc-add, pow-half w k) (has-bit n (suc t) (w / 2) k (omega arith))
-
-has-append : (s : ℕ) (a b : List ℕ) → hasTag s (a ++ b) ≡ (hasTag s a || hasTag s b)
-unfolding hasTag
-has-append s [] b = refl
-has-append s (x ∷ a) b = go (eqb s x) (has-append s a b)
-  where
-    go : (t : Bool) → hasTag s (a ++ b) ≡ (hasTag s a || hasTag s b) → (t || hasTag s (a ++ b)) ≡ ((t || hasTag s a) || hasTag s b)
-    go true ih = refl
-    go false ih = ih
-
-module _ (low high tag : ℕ) where
-  pub has-low : tag < 32 → eqb (low / 2 ^ tag % 2) 1 ≡ hasTag tag (tagsOf low high)
-  unfolding tagsOf
-  has-low h =
-      let e : hasTag tag (tagsFrom 32 0 low) ≡ eqb (low / 2 ^ tag % 2) 1 = rw zero-add at (has-bit 32 0 low tag h) in
-      rw (has-append, e, has-below 32 32 high tag h, or-false) refl
-
-  pub has-high : 32 ≤ tag → tag < 64 → eqb (high / 2 ^ (tag - 32) % 2) 1 ≡ hasTag tag (tagsOf low high)
-  unfolding tagsOf
-  has-high g h =
-      let s : 32 + (tag - 32) ≡ tag = omega arith in
-      let e : hasTag tag (tagsFrom 32 32 high) ≡ eqb (high / 2 ^ (tag - 32) % 2) 1 = rw s at (has-bit 32 32 high (tag - 32) (omega arith)) in
-      rw (has-append, has-above 32 0 low tag g, e) refl
-
-  pub has-none : 64 ≤ tag → false ≡ hasTag tag (tagsOf low high)
-  unfolding tagsOf
-  has-none g = rw (has-append, has-above 32 0 low tag (omega arith), has-above 32 32 high tag g) refl
 
 -- Every tag of a list is at least t, or below t; each is above those before it.
 unfoldable pub AtLeast : ℕ → List ℕ → Type 0
@@ -289,9 +216,9 @@ rising-append t [] b l g p q = q
 rising-append t (x ∷ a) b l g p q =
     (at-least-append (suc x) a b (p .0) (at-least-less (suc x) t b (l .0) g), rising-append t a b (l .1) g (p .1) q)
 
-pub tags-below : (low high : ℕ) → Below 64 (tagsOf low high)
+pub tags-below : (low high : ℕ) → Below mostTags (tagsOf low high)
 unfolding tagsOf
-tags-below low high = below-append 64 _ _ (below-more 32 64 _ (omega arith) (from-below 32 0 low)) (from-below 32 32 high)
+tags-below low high = below-append mostTags _ _ (below-more 32 mostTags _ (omega arith) (from-below 32 0 low)) (from-below 32 32 high)
 
 pub tags-rising : (low high : ℕ) → Rising (tagsOf low high)
 unfolding tagsOf
@@ -306,39 +233,18 @@ from-length (suc n) t w = go (from-length n (suc t) (w / 2)) (ℕ-discrete (w % 
     go ih (yes e) = rw (tags-even n t w e) (omega arith)
     go ih (no f) = rw (tags-odd n t w (odd w f)) (omega arith)
 
-pub tags-length-le : (low high : ℕ) → length (tagsOf low high) ≤ 64
+pub tags-length-le : (low high : ℕ) → length (tagsOf low high) ≤ mostTags
 unfolding tagsOf
 tags-length-le low high =
     omega (arith, length-append (tagsFrom 32 0 low) (tagsFrom 32 32 high), from-length 32 0 low, from-length 32 32 high)
 
--- ---- a walk from the first tag on
+-- ---- the first tag
 
-pub cons-first : (ts : List ℕ) → 0 < length ts → ts ≡ getD ts 0 64 ∷ drop 1 ts
-cons-first [] h = absurd (omega arith)
-cons-first (t ∷ ts) h = refl
-
-first-lt : (ts : List ℕ) → Below 64 ts → 0 < length ts → getD ts 0 64 < 64
-unfolding Below
-first-lt [] b h = absurd (omega arith)
-first-lt (t ∷ ts) b h = b .0
-
-first-out : (ts : List ℕ) → Below 64 ts → 64 ≤ getD ts 0 64 → ts ≡ []
+first-out : (ts : List ℕ) → Below mostTags ts → mostTags ≤ getD ts 0 mostTags → ts ≡ []
 unfolding Below
 first-out [] b h = refl
 first-out (t ∷ ts) b h = absurd (omega (arith, b .0))
 
-rest-at-least : (ts : List ℕ) → Rising ts → 0 < length ts → AtLeast (suc (getD ts 0 64)) (drop 1 ts)
-unfolding Rising
-rest-at-least [] r h = absurd (omega arith)
-rest-at-least (t ∷ ts) r h = r .0
-
-module _ (low high : ℕ) where
-  pub first-below : 0 < length (tagsOf low high) → getD (tagsOf low high) 0 64 < 64
-  first-below h = first-lt (tagsOf low high) (tags-below low high) h
-
-  -- `Set::first` answers 64 only for the empty set.
-  pub first-none : 64 ≤ getD (tagsOf low high) 0 64 → tagsOf low high ≡ []
-  first-none h = first-out (tagsOf low high) (tags-below low high) h
-
-  pub rest-above : 0 < length (tagsOf low high) → AtLeast (suc (getD (tagsOf low high) 0 64)) (drop 1 (tagsOf low high))
-  rest-above h = rest-at-least (tagsOf low high) (tags-rising low high) h
+-- `Set::first` answers 64 only for the empty set.
+pub first-none : (low high : ℕ) → mostTags ≤ getD (tagsOf low high) 0 mostTags → tagsOf low high ≡ []
+first-none low high h = first-out (tagsOf low high) (tags-below low high) h
