@@ -4,11 +4,13 @@ use mathlib.Core.Path.{_≡_, refl}
 use mathlib.Core.List.{List, [], _∷_, _++_, map}
 use Prim.Native.Nat.{ℕ}
 use lib.IntN.{pos}
+use Rattle.lists.specs.Lists.{keep}
 use Rattle.delta.specs.Delta.{Delta}
 use Rattle.request.specs.Request.{Request, lastCommitted, base, write, addDelta, estimate, remove, fetch, materialize, groupBase, exchange, groupWrite, groupEstimate, groupRemove, groupFetch, groupSize, finalize}
 use Rattle.number.specs.Words
 use Rattle.delta.specs.Delta
 use Rattle.types.specs.Value
+use Rattle.types.specs.Units
 use Rattle.types.specs.Response
 use Rattle.request.specs.Table
 use Rattle.request.specs.Set
@@ -17,12 +19,12 @@ use Rattle.model.specs.Rows
 use Rattle.model.specs.Data
 use Rattle.model.specs.Group
 use Rattle.model.specs.Model
-use Rattle.model.specs.Model.{Slots, refused, answered, Turn, turns, empty}
+use Rattle.model.specs.Model.{Fixed, refused, answered, Turn, turns, empty}
 use Rattle.model.specs.Tickets
 use Rattle.model.specs.Tickets.{_⟹_, _⇒_, done, wroteOutside, uninitialized, tagNotFound, applicationFailure, versioned, atBase, resolved, unresolved, dependency, size, committed, valueWords, number, created, modified, deleted, rawCreated, rawModified, rawDeleted, tagged, plus, minus}
 
 pub record Case : Type 0 where
-  pub slots : Slots
+  pub slots : Fixed
   pub told : List Turn
 
 unfoldable pub within : ℕ → ℕ → List Turn → Case
@@ -555,7 +557,7 @@ cases = printed ∷ starred ++ slips ++ entries ++ groups ++ full ++ malformed
 
 -- The case with the outcomes of the definition: its requests, run from empty stores.
 unfoldable pub run : Case → Case
-unfolding Words.digits Words.valueOfWords Delta.valid Delta.applyTo Delta.greater Delta.joined Delta.mergeable Delta.merge Delta.gathered Delta.accumulate Delta.isMinus Delta.signed Delta.numberAt Delta.minusZero Delta.minusAt Delta.deltaAt Delta.deltaOk Delta.signWord Delta.deltaWords Value.valueAt Value.writeOpKind Value.isCreation Value.isDeletion Value.isExchanged Value.byteLength Value.layoutOf Value.numberWords Value.hasNumber Value.numberIn Value.bytesLen Value.sameLength Value.sameBytes Value.valueOk Response.response Table.row Table.at Table.table Table.rowOf Set.tagsFrom Set.tagsOf Set.membersOf Request.rowAt Request.countOf Request.tagsAt Request.tags Request.members Request.shapeOk Request.exchangedOk Request.rawOk Request.tagOk Request.all Request.fieldsOk Request.lastIndex Request.indexIn Request.indexOk Request.refusalOf Request.requestAs Request.requestOf Rows.keep Rows.isBelow Rows.isAt Rows.isAbove Rows.heldFirst Rows.find Rows.put Rows.erase Rows.isUpTo Rows.downFrom Rows.ofKey Rows.edited Data.done Data.doneAnswer Data.resolvedOr Data.onto Data.belowDeltas Data.atWrite Data.atCell Data.atRow Data.atEnd Data.past Data.walk Data.readOf Data.versionedAnswer Data.readRuling Data.sameExchanged Data.unlessDiffers Data.baseOver Data.baseOnto Data.setBaseValue Data.yields Data.mayWrite Data.writeValue Data.addDelta Data.markEstimate Data.remove Data.withShortcut Data.record-shortcut Data.materialized Data.materializeDelta Data.fetchData Group.firstTagged Group.valueOf Group.isSome Group.commitOver Group.commitNew Group.commitOne Group.commitRest Group.commit Group.commits Group.firstBase Group.agrees Group.allAgree Group.setRawBaseValues Group.replaced Group.exchangeRaw Group.exchangeIn Group.updateTaggedBaseValue Group.membersIn Group.outside Group.writeGroup Group.markGroup Group.removeGroup Group.nearest Group.latest Group.hasBase Group.dependencyAnswer Group.latestAnswer Group.fetchTaggedData Group.withBytes Group.withLatest Group.sizeOver Group.count Group.allTags Group.sizeAnswer Group.getGroupSize Group.setOf Group.valuesOf Group.committedAnswer Group.getLastCommittedGroup Group.finalizedTo Group.finalizeGroup Model.empty Model.dataHeld Model.updatesHeld Model.groupHeld Model.fits Model.workOf Model.ruled Model.withEntries Model.withUpdates Model.withCommits Model.perform Model.unlessRefused Model.ruling Model.unlessFull Model.step Model.leftBy Model.outcomeOf Model.after Model.turns Tickets.bitsOf Tickets.valuesIn Tickets.setAndValues Tickets.wordsOf Tickets._⟹_ Tickets._⇒_ Tickets.done Tickets.wroteOutside Tickets.uninitialized Tickets.tagNotFound Tickets.applicationFailure Tickets.versioned Tickets.atBase Tickets.resolved Tickets.unresolved Tickets.dependency Tickets.size Tickets.committed Tickets.valueWords Tickets.number Tickets.created Tickets.modified Tickets.deleted Tickets.rawCreated Tickets.rawModified Tickets.rawDeleted Tickets.tagged Tickets.plus Tickets.minus
+unfolding Words.digits Words.valueOfWords Delta.valid Delta.applyTo Delta.greater Delta.joined Delta.mergeable Delta.merge Delta.gathered Delta.accumulate Delta.isMinus Delta.signed Delta.numberAt Delta.minusZero Delta.minusAt Delta.deltaAt Delta.deltaOk Delta.signWord Delta.deltaWords Value.valueAt Value.writeOpKind Value.isCreation Value.isDeletion Value.isExchanged Value.byteLength Value.layoutOf Value.numberWords Value.hasNumber Value.numberIn Value.bytesLen Value.sameLength Value.sameBytes Value.valueOk Response.response Table.row Table.at Table.table Table.rowOf Set.tagsFrom Set.tagsOf Set.membersOf Request.rowAt Request.countOf Request.tagsAt Request.tags Request.members Request.shapeOk Request.exchangedOk Request.rawOk Request.tagOk Request.all Request.fieldsOk Request.lastIndex Request.indexIn Request.indexOk Request.refusalOf Request.requestAs Request.requestOf keep Rows.isBelow Rows.isAt Rows.isAbove Rows.heldFirst Rows.find Rows.put Rows.erase Rows.isUpTo Rows.downFrom Rows.ofKey Rows.edited Data.done Data.doneAnswer Data.resolvedOr Data.onto Data.belowDeltas Data.atWrite Data.atCell Data.atRow Data.atEnd Data.past Data.walk Data.readOf Data.versionedAnswer Data.readRuling Data.sameExchanged Data.unlessDiffers Data.baseOver Data.baseOnto Data.setBaseValue Data.yields Data.mayWrite Data.writeValue Data.addDelta Data.markEstimate Data.remove Data.withShortcut Data.record-shortcut Data.materialized Data.materializeDelta Data.fetchData Group.firstTagged Group.memberValue Group.isSome Group.commitOver Group.commitNew Group.commitOne Group.commitRest Group.commit Group.commits Group.firstBase Group.agrees Group.allAgree Group.setRawBaseValues Group.replaced Group.exchangeRaw Group.exchangeIn Group.updateTaggedBaseValue Group.membersIn Group.outside Group.writeGroup Group.markGroup Group.removeGroup Group.nearest Group.latest Group.hasBase Group.dependencyAnswer Group.latestAnswer Group.fetchTaggedData Group.withBytes Group.withLatest Group.sizeOver Group.count Group.allTags Group.sizeAnswer Group.getGroupSize Group.setOf Group.valuesOf Group.committedAnswer Group.getLastCommittedGroup Group.finalizedTo Group.finalizeGroup Model.empty Model.dataHeld Model.updatesHeld Model.groupHeld Model.firstOf Model.lackIn Units.lackOf Model.workOf Model.ruled Model.withEntries Model.withUpdates Model.withCommits Model.perform Model.unlessRefused Model.ruling Model.unlessFull Model.step Model.leftBy Model.outcomeOf Model.after Model.turns Tickets.bitsOf Tickets.valuesIn Tickets.setAndValues Tickets.requestWords Tickets._⟹_ Tickets._⇒_ Tickets.done Tickets.wroteOutside Tickets.uninitialized Tickets.tagNotFound Tickets.applicationFailure Tickets.versioned Tickets.atBase Tickets.resolved Tickets.unresolved Tickets.dependency Tickets.size Tickets.committed Tickets.valueWords Tickets.number Tickets.created Tickets.modified Tickets.deleted Tickets.rawCreated Tickets.rawModified Tickets.rawDeleted Tickets.tagged Tickets.plus Tickets.minus Request.tagsBy Request.valueIn Request.deltaIn Request.tailLength Request.tailOk Request.countOk
 run c = record { slots = c .slots; told = Model.turns (c .slots) Model.empty (map (λ turn. turn .request) (c .told)) }
 
 pub cases-hold : map run cases ≡ cases

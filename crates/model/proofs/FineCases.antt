@@ -6,13 +6,14 @@ use mathlib.Core.List.{List, [], _∷_}
 use mathlib.Core.Option.{none, some}
 use Prim.Native.Nat.{ℕ, _+_, _*_, _^_}
 use lib.IntN.{ℤ, pos, negsuc}
+use Rattle.lists.specs.Lists.{every}
 use Rattle.number.specs.Words
 use Rattle.number.specs.Number
 use Rattle.delta.specs.Delta.{Delta}
 use Rattle.delta.specs.Delta
 use Rattle.types.specs.Value
 use Rattle.request.specs.Set.{Member}
-use Rattle.model.specs.Rows.{Row, every, rising}
+use Rattle.model.specs.Rows.{Row, rising}
 use Rattle.model.specs.Rows
 use Rattle.model.specs.Data.{Cell, write, delta, Entry}
 use Rattle.model.specs.Group.{Update, Committed}

@@ -3,14 +3,16 @@
 use mathlib.Core.Path.{_≡_, refl, sym, _∙_, ap}
 use mathlib.Core.Bool.{Bool, true, false, not, _&&_}
 use mathlib.Core.Logic.{_⊎_, inl, inr}
-use mathlib.Core.List.{List, [], _∷_, _++_, reverse}
-use Prim.Native.Nat.{ℕ, _≤_, _<_}
+use mathlib.Core.List.{List, [], _∷_, _++_}
+use Prim.Native.Nat.{ℕ, _<_}
 use native.Mathlib.Omega.{arith}
 use native.Mathlib.Decide.{decLt}
-use lib.Dec.{leb, ltb, eqb}
-use borrow.Author.Tests.{ltb-true, leb-true, eqb-true, lt-ltb, le-ltb, le-leb, lt-leb, eq-eqb, ne-eqb}
-use Rattle.model.specs.Rows.{Row, keep, every, isBelow, isAt, isAbove, rising, heldFirst, find, put, erase, isUpTo, downFrom, Edit, leave, set, clear, edited}
-use Rattle.model.proofs.Lists.{and-left, and-right, and-both, keep-append, keep-stronger, keep-swap, keep-all, keep-none, every-imp, every-keep, every-kept, every-append}
+use lib.Dec.{ltb, eqb}
+use borrow.Author.Tests.{ltb-true, eqb-true, lt-ltb, le-ltb, eq-eqb, ne-eqb}
+use Rattle.lists.specs.Lists.{every, keep}
+use Rattle.lists.proofs.Bools.{and-both, and-left, and-right}
+use Rattle.lists.proofs.Lists.{every-imp, every-join, every-keep, every-kept, keep-all, keep-none}
+use Rattle.model.specs.Rows.{Row, isBelow, isAt, isAbove, rising, put, erase, Edit, leave, set, clear, edited}
 
 -- Where a row stands against a key and place: exactly one of the three tests passes.
 pub data Side {A : Type 0} (k p : ℕ) (r : Row A) : Type 0 where
@@ -198,7 +200,7 @@ module _ {A : Type 0} where
   rising-append [] ys h g e = g
   rising-append (x ∷ xs) ys h g e =
       and-both (every (isAbove (x .key) (x .place)) (xs ++ ys)) (rising (xs ++ ys))
-      (every-append (isAbove (x .key) (x .place)) xs ys (and-left (every (isAbove (x .key) (x .place)) xs) (rising xs) h)
+      (every-join (isAbove (x .key) (x .place)) xs ys (and-left (every (isAbove (x .key) (x .place)) xs) (rising xs) h)
       (and-left (every (isAbove (x .key) (x .place)) ys) (every (λ r. every (isAbove (r .key) (r .place)) ys) xs) e))
       (rising-append xs ys (and-right (every (isAbove (x .key) (x .place)) xs) (rising xs) h) g
       (and-right (every (isAbove (x .key) (x .place)) ys) (every (λ r. every (isAbove (r .key) (r .place)) ys) xs) e))
@@ -228,78 +230,3 @@ module _ {A : Type 0} where
   rising-edited k p leave rs h = h
   rising-edited k p (set a) rs h = rising-put k p a rs h
   rising-edited k p clear rs h = rising-erase k p rs h
-
--- Rows at places up to a bound: what is left of a store when all above it is hidden.
-unfoldable pub isLow : {A : Type 0} → ℕ → Row A → Bool
-isLow t r = leb (r .place) t
-
-unfoldable pub low : {A : Type 0} → ℕ → List (Row A) → List (Row A)
-low t rs = keep (isLow t) rs
-
-module _ {A : Type 0} (t : ℕ) where
-  -- a row at a place up to the bound is seen, one at a place above it is not
-  at-low : (k p : ℕ) (r : Row A) → p ≤ t → isAt k p r ≡ true → isLow t r ≡ true
-  unfolding isLow
-  at-low k p r h e = le-leb (r .place) t (omega (arith, at-place k p r e))
-
-  at-high : (k p : ℕ) (r : Row A) → t < p → isAt k p r ≡ true → isLow t r ≡ false
-  unfolding isLow
-  at-high k p r h e = lt-leb (r .place) t (omega (arith, at-place k p r e))
-
-  upTo-low : (k reach : ℕ) (r : Row A) → reach ≤ t → isUpTo k reach r ≡ true → isLow t r ≡ true
-  unfolding isLow isUpTo
-  upTo-low k reach r h e = le-leb (r .place) t (omega (arith, leb-true (r .place) reach (and-right (eqb (r .key) k) (leb (r .place) reach) e)))
-
-  -- a look-up at or below the bound sees the same
-  pub find-low : (k p : ℕ) (rs : List (Row A)) → p ≤ t → find k p (low t rs) ≡ find k p rs
-  unfolding find low
-  find-low k p rs h = ap heldFirst (keep-stronger (isAt k p) (isLow t) (λ r e. at-low k p r h e) rs)
-
-  pub downFrom-low : (k reach : ℕ) (rs : List (Row A)) → reach ≤ t → downFrom k reach (low t rs) ≡ downFrom k reach rs
-  unfolding downFrom low
-  downFrom-low k reach rs h = ap reverse (keep-stronger (isUpTo k reach) (isLow t) (λ r e. upTo-low k reach r h e) rs)
-
-  -- an edit at or below the bound is the same edit of what is seen
-  pub put-low : (k p : ℕ) (a : A) (rs : List (Row A)) → p ≤ t → low t (put k p a rs) ≡ put k p a (low t rs)
-  unfolding put low keep isLow
-  put-low k p a rs h =
-      keep-append (isLow t) (keep (isBelow k p) rs) (record { key = k; place = p; held = a } ∷ keep (isAbove k p) rs)
-      ∙ rw (le-leb p t h, keep-swap (isLow t) (isBelow k p) rs, keep-swap (isLow t) (isAbove k p) rs)
-
-  pub erase-low : (k p : ℕ) (rs : List (Row A)) → low t (erase k p rs) ≡ erase k p (low t rs)
-  unfolding erase low
-  erase-low k p rs = keep-swap (isLow t) (λ r. not (isAt k p r)) rs
-
-  pub edited-low : (k p : ℕ) (e : Edit A) (rs : List (Row A)) → p ≤ t → low t (edited k p e rs) ≡ edited k p e (low t rs)
-  unfolding edited
-  edited-low k p leave rs h = refl
-  edited-low k p (set a) rs h = put-low k p a rs h
-  edited-low k p clear rs h = erase-low k p rs
-
-  -- an edit above the bound is not seen
-  pub put-high : (k p : ℕ) (a : A) (rs : List (Row A)) → t < p → rising rs ≡ true → low t (put k p a rs) ≡ low t rs
-  unfolding put low keep isLow
-  put-high k p a rs h g =
-      keep-append (isLow t) (keep (isBelow k p) rs) (record { key = k; place = p; held = a } ∷ keep (isAbove k p) rs)
-      ∙ rw (lt-leb p t h)
-      (sym
-      (ap (keep (isLow t)) (split k p rs g)
-      ∙ keep-append (isLow t) (keep (isBelow k p) rs) (keep (isAt k p) rs ++ keep (isAbove k p) rs)
-      ∙ ap (λ (l : List (Row A)). keep (isLow t) (keep (isBelow k p) rs) ++ l)
-      (keep-append (isLow t) (keep (isAt k p) rs) (keep (isAbove k p) rs)
-      ∙ ap (λ (l : List (Row A)). l ++ keep (isLow t) (keep (isAbove k p) rs))
-      (keep-none (isLow t) (isAt k p) (λ r e. at-high k p r h e) (keep (isAt k p) rs) (every-kept (isAt k p) rs)))))
-
-  pub erase-high : (k p : ℕ) (rs : List (Row A)) → t < p → low t (erase k p rs) ≡ low t rs
-  unfolding erase low
-  erase-high k p rs h = keep-stronger (isLow t) (λ r. not (isAt k p r)) (λ r e. kept r e (isAt k p r) refl) rs
-    where
-      kept : (r : Row A) → isLow t r ≡ true → (b : Bool) → isAt k p r ≡ b → not (isAt k p r) ≡ true
-      kept r e true f = absurd (let z : isLow t r ≡ false = at-high k p r h f in let y : _≡_ {A = ℕ} 0 1 = cc in omega arith)
-      kept r e false f = rw f
-
-  pub edited-high : (k p : ℕ) (e : Edit A) (rs : List (Row A)) → t < p → rising rs ≡ true → low t (edited k p e rs) ≡ low t rs
-  unfolding edited
-  edited-high k p leave rs h g = refl
-  edited-high k p (set a) rs h g = put-high k p a rs h g
-  edited-high k p clear rs h g = erase-high k p rs h

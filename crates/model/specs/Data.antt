@@ -7,8 +7,9 @@ use Prim.Native.Nat.{ℕ, zero, suc, _-_}
 use lib.Dec.{ltb, eqb}
 use Rattle.number.specs.Words.{digits}
 use Rattle.delta.specs.Delta.{Delta, applyTo, Accumulated, nothing, merged, failed, accumulate, deltaWords}
+use Rattle.types.specs.Refusal.{nothingThere, incarnationNotHigher, baseDiffers, layoutUnderDelta, noNumberUnderDelta, notMaterializable}
 use Rattle.types.specs.Value.{layoutOf, isDeletion, isExchanged, hasNumber, numberIn, sameBytes}
-use Rattle.types.specs.Response.{response}
+use Rattle.types.specs.Response.{response, doneKind, versionedKind, resolvedKind, unresolvedKind, uninitializedKind, dependencyKind, applicationFailureKind, versionedAtBaseKind}
 use Rattle.model.specs.Rows.{Row, Edit, leave, set, clear}
 
 -- "a write with incarnation (u32), or a delta with or without a shortcut; done or estimated"
@@ -30,7 +31,7 @@ pub data Ruling (A : Type 0) : Type 0 where
 
 -- "0 done"
 unfoldable pub doneAnswer : List ℕ
-doneAnswer = response 0 []
+doneAnswer = response doneKind []
 
 -- What a read finds.
 pub data Read : Type 0 where
@@ -57,8 +58,8 @@ onto failed n = applicationFailure
 -- else the merged delta is applied, or DeltaApplicationFailure"
 unfoldable pub belowDeltas : Accumulated → ℕ → ℕ → List ℕ → Read
 belowDeltas a place incarnation v =
-    cond (not (eqb (layoutOf v) 0)) (refusal 9)
-    (cond (isDeletion v) (versioned place incarnation v) (cond (not (hasNumber v)) (refusal 10) (onto a (numberIn v))))
+    cond (not (eqb (layoutOf v) 0)) (refusal layoutUnderDelta)
+    (cond (isDeletion v) (versioned place incarnation v) (cond (not (hasNumber v)) (refusal noNumberUnderDelta) (onto a (numberIn v))))
 
 -- "at a write with no delta above: Versioned"
 unfoldable pub atWrite : Accumulated → ℕ → ℕ → List ℕ → Read
@@ -98,17 +99,17 @@ readOf seen = walk nothing seen
 
 -- "1 Versioned (index, incarnation, value); 11 Versioned at the base (value)"
 unfoldable pub versionedAnswer : ℕ → ℕ → List ℕ → List ℕ
-versionedAnswer zero incarnation v = response 11 v
-versionedAnswer (suc index) incarnation v = response 1 (index ∷ incarnation ∷ v)
+versionedAnswer zero incarnation v = response versionedAtBaseKind v
+versionedAnswer (suc index) incarnation v = response versionedKind (index ∷ incarnation ∷ v)
 
 -- "2 Resolved (number); 3 Unresolved (delta); 4 Uninitialized; 6 Dependency (index); 7 DeltaApplicationFailure"
 unfoldable pub readRuling : {A : Type 0} → A → Read → Ruling A
 readRuling same (versioned place incarnation v) = accept (versionedAnswer place incarnation v) same
-readRuling same (resolved n) = accept (response 2 (digits 4 n)) same
-readRuling same (unresolved d) = accept (response 3 (deltaWords d)) same
-readRuling same uninitialized = accept (response 4 []) same
-readRuling same (dependency index) = accept (response 6 (index ∷ [])) same
-readRuling same applicationFailure = accept (response 7 []) same
+readRuling same (resolved n) = accept (response resolvedKind (digits 4 n)) same
+readRuling same (unresolved d) = accept (response unresolvedKind (deltaWords d)) same
+readRuling same uninitialized = accept (response uninitializedKind []) same
+readRuling same (dependency index) = accept (response dependencyKind (index ∷ [])) same
+readRuling same applicationFailure = accept (response applicationFailureKind []) same
 readRuling same (refusal n) = refuse n
 
 -- "layouts both present or both 0, lengths equal in the same way if both 0"
@@ -118,7 +119,7 @@ sameExchanged v w = cond (eqb (layoutOf v) 0) (eqb (layoutOf w) 0 && sameBytes v
 -- 8: "base differs"
 unfoldable pub unlessDiffers : Bool → Ruling (Edit Entry)
 unlessDiffers true = accept doneAnswer leave
-unlessDiffers false = refuse 8
+unlessDiffers false = refuse baseDiffers
 
 -- "raw on raw needs equal lengths, deletion matching only deletion; raw on exchanged does nothing; exchanged on raw replaces; exchanged on
 -- exchanged needs layouts both present or both 0, lengths equal in the same way if both 0, and does nothing"
@@ -148,7 +149,7 @@ mayWrite incarnation (some e) = yields (e .cell) incarnation
 
 -- 7: "incarnation not higher"
 unfoldable pub writeValue : ℕ → List ℕ → Option Entry → Ruling (Edit Entry)
-writeValue incarnation v own = cond (mayWrite incarnation own) (accept doneAnswer (set (done (write incarnation v)))) (refuse 7)
+writeValue incarnation v own = cond (mayWrite incarnation own) (accept doneAnswer (set (done (write incarnation v)))) (refuse incarnationNotHigher)
 
 -- "`add_delta` always replaces."
 unfoldable pub addDelta : Delta → Option Entry → Ruling (Edit Entry)
@@ -156,11 +157,11 @@ addDelta d own = accept doneAnswer (set (done (delta d none)))
 
 -- 6: "nothing there for kinds 4, 5"
 unfoldable pub markEstimate : Option Entry → Ruling (Edit Entry)
-markEstimate none = refuse 6
+markEstimate none = refuse nothingThere
 markEstimate (some e) = accept doneAnswer (set (record { cell = e .cell; estimate = true }))
 
 unfoldable pub remove : Option Entry → Ruling (Edit Entry)
-remove none = refuse 6
+remove none = refuse nothingThere
 remove (some e) = accept doneAnswer clear
 
 -- the shortcut of a delta; a write has none
@@ -170,17 +171,17 @@ withShortcut n (delta d shortcut) = delta d (some n)
 
 -- "Resolved is recorded as shortcut and answered"; 6 "for kinds .. 7 when Resolved"
 unfoldable pub record-shortcut : ℕ → Option Entry → Ruling (Edit Entry)
-record-shortcut n none = refuse 6
-record-shortcut n (some e) = accept (response 2 (digits 4 n)) (set (record { cell = withShortcut n (e .cell); estimate = e .estimate }))
+record-shortcut n none = refuse nothingThere
+record-shortcut n (some e) = accept (response resolvedKind (digits 4 n)) (set (record { cell = withShortcut n (e .cell); estimate = e .estimate }))
 
 -- `materialize_delta`: "Unresolved is answered even if the index has no entry". 13: "neither Resolved nor Unresolved, and not 9 or 10"
 unfoldable pub materialized : Option Entry → Read → Ruling (Edit Entry)
-materialized own (versioned place incarnation v) = refuse 13
+materialized own (versioned place incarnation v) = refuse notMaterializable
 materialized own (resolved n) = record-shortcut n own
-materialized own (unresolved d) = accept (response 3 (deltaWords d)) leave
-materialized own uninitialized = refuse 13
-materialized own (dependency index) = refuse 13
-materialized own applicationFailure = refuse 13
+materialized own (unresolved d) = accept (response unresolvedKind (deltaWords d)) leave
+materialized own uninitialized = refuse notMaterializable
+materialized own (dependency index) = refuse notMaterializable
+materialized own applicationFailure = refuse notMaterializable
 materialized own (refusal n) = refuse n
 
 -- "`materialize_delta` reads at index plus 1": `seen` are the rows that a reader there sees

@@ -1,19 +1,22 @@
 -- 01, "Rule 5" without the layout: "fields in range; no key and index (and tag) twice; base entries are done writes of incarnation 0; update
 -- sets and tagged entries match, one incarnation and one mark to an update; only bases and committed values are raw; no committed deletion."
 -- That sets and members match, and one incarnation and mark to an update, the model's form already says.
-use mathlib.Core.Bool.{Bool, true, false, cond, not, _&&_, _||_}
+use mathlib.Core.Bool.{Bool, true, cond, not, _&&_, _||_}
 use mathlib.Core.List.{List, [], _∷_}
 use mathlib.Core.Option.{Option, none, some}
 use Prim.Native.Nat.{ℕ, suc, _*_, _^_}
 use lib.Dec.{leb, ltb, eqb}
 use lib.ListN.{length}
+use Rattle.lists.specs.Lists.{every}
 use Rattle.number.specs.Number.{range}
 use Rattle.delta.specs.Delta.{Delta, valid}
+use Rattle.types.specs.Refusal.{layoutUnderDelta, noNumberUnderDelta}
+use Rattle.types.specs.Response.{answerWidth}
 use Rattle.types.specs.Value.{valueWidth, valueOk, isExchanged, isDeletion}
 use Rattle.request.specs.Set.{Member}
 use Rattle.request.specs.Request.{Request}
 use Rattle.request.specs.Request as Ask
-use Rattle.model.specs.Rows.{Row, every, rising}
+use Rattle.model.specs.Rows.{Row, rising}
 use Rattle.model.specs.Data.{Cell, write, delta, Entry, Read, versioned, resolved, unresolved, uninitialized, dependency, applicationFailure, refusal}
 use Rattle.model.specs.Group.{Update, Committed, Latest, Size, counted, waits}
 use Rattle.model.specs.Model.{Model}
@@ -83,7 +86,7 @@ fineRead (unresolved d) = fineDelta d
 fineRead uninitialized = true
 fineRead (dependency index) = isWord index
 fineRead applicationFailure = true
-fineRead (refusal n) = eqb n 9 || eqb n 10
+fineRead (refusal n) = eqb n layoutUnderDelta || eqb n noNumberUnderDelta
 
 -- the same of what a group's reader finds nearest below it, and of a size over n tags
 unfoldable pub fineLatest : Option Latest → Bool
@@ -96,7 +99,7 @@ fineSize n (waits place) = isWord place
 
 -- "1: answer under 451 words": no answer has more, and each is a word
 unfoldable pub fineAnswer : List ℕ → Bool
-fineAnswer words = leb (length words) 451 && every isWord words
+fineAnswer words = leb (length words) answerWidth && every isWord words
 
 unfoldable pub fineMembers : ℕ → List Member → Bool
 fineMembers place ms = risingFrom 0 ms && every (fineMember place) ms

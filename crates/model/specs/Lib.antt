@@ -2,6 +2,8 @@ pub mod Rows
 pub mod Data
 pub mod Group
 pub mod Model
+pub mod Sight
 pub mod Tickets
 pub mod Fine
 pub mod Noninterference
+pub mod Blind

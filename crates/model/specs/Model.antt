@@ -1,11 +1,12 @@
 -- The whole behaviour of 01 as one function: from the model of the two stores and a request's words to an outcome and the model after.
 -- 1 and 5 are not decided here: 1 is about the answer slice, 5 about the words that a store is kept in.
-use mathlib.Core.Bool.{Bool, cond, _&&_}
+use mathlib.Core.Bool.{Bool}
 use mathlib.Core.List.{List, [], _∷_}
 use mathlib.Core.Option.{Option}
 use Prim.Native.Nat.{ℕ, zero, suc, _+_}
-use lib.Dec.{leb}
+use lib.Dec.{eqb}
 use lib.ListN.{length}
+use Rattle.types.specs.Units.{lackOf}
 use Rattle.request.specs.Request.{Request, refusalOf, requestOf}
 use Rattle.request.specs.Request as Ask
 use Rattle.model.specs.Rows.{Row, find, downFrom, Edit, edited}
@@ -21,8 +22,8 @@ pub record Model : Type 0 where
 unfoldable pub empty : Model
 empty = record { entries = []; updates = []; committed = [] }
 
--- How many slots (01: units) each store has.
-pub record Slots : Type 0 where
+-- What is fixed for a history: how many slots (01: units) each store has.
+pub record Fixed : Type 0 where
   pub data-slots : ℕ
   pub group-slots : ℕ
 
@@ -37,8 +38,22 @@ updatesHeld (r ∷ rs) = 1 + length (r .held .members) + updatesHeld rs
 unfoldable pub groupHeld : Model → ℕ
 groupHeld m = updatesHeld (m .updates) + length (m .committed)
 
-unfoldable pub fits : Slots → Model → Bool
-fits s m = leb (dataHeld m) (s .data-slots) && leb (groupHeld m) (s .group-slots)
+-- The number to refuse by: the first of two that is one.
+unfoldable pub firstOf : ℕ → ℕ → ℕ
+firstOf zero n = n
+firstOf (suc m) n = suc m
+
+-- Lack of units in either store: 0 where both have the slots that the model takes, else the number of the refusal.
+unfoldable pub lackIn : Fixed → Model → ℕ
+lackIn s m = firstOf (lackOf (dataHeld m) (s .data-slots)) (lackOf (groupHeld m) (s .group-slots))
+
+unfoldable pub fits : Fixed → Model → Bool
+fits s m = eqb (lackIn s m) 0
+
+-- What a rule over both stores gives: an edit of the entry and one of the update at its own place.
+pub record BothEdits : Type 0 where
+  pub entry : Edit Entry
+  pub update : Edit Update
 
 -- A request's work: the key, the shifted index `place` that it edits, the highest shifted index `reach` that it reads, and its rule.
 pub data Work : Type 0 where
@@ -47,6 +62,7 @@ pub data Work : Type 0 where
   readGroup : (key reach : ℕ) → (List (Row Update) → Ruling Unit) → Work
   editGroup : (key place : ℕ) → (Option Update → Ruling (Edit Update)) → Work
   commitGroup : (key place : ℕ) → (Option Update → Committed → Ruling Commits) → Work
+  editBoth : (key place : ℕ) → (Option Entry → Option Update → Ruling BothEdits) → Work
 
 -- "A shifted index is the transaction index plus 1; shifted 0 is the base." A reader at t reaches shifted index t.
 unfoldable pub workOf : Request → Work
@@ -82,6 +98,10 @@ unfoldable pub withCommits : ℕ → ℕ → Model → Commits → Model
 withCommits key place m c =
     record { entries = m .entries; updates = edited key place (c .edit) (m .updates); committed = c .group }
 
+unfoldable pub withBoth : ℕ → ℕ → Model → BothEdits → Model
+withBoth key place m b =
+    record { entries = edited key place (b .entry) (m .entries); updates = edited key place (b .update) (m .updates); committed = m .committed }
+
 -- Refusals 6 to 13, or the answer and the model after, however many slots that takes.
 unfoldable pub perform : Work → Model → Ruling Model
 perform (readData key reach rule) m = ruled (λ same. m) (rule (downFrom key reach (m .entries)))
@@ -91,6 +111,7 @@ perform (readGroup key reach rule) m = ruled (λ same. m) (rule (downFrom key re
 perform (editGroup key place rule) m =
     ruled (λ e. withUpdates m (edited key place e (m .updates))) (rule (find key place (m .updates)))
 perform (commitGroup key place rule) m = ruled (withCommits key place m) (rule (find key place (m .updates)) (m .committed))
+perform (editBoth key place rule) m = ruled (withBoth key place m) (rule (find key place (m .entries)) (find key place (m .updates)))
 
 -- "2: empty, or count wrong ..; 3: a field breaks its rule; 4: index too high" before all that a store decides.
 unfoldable pub unlessRefused : ℕ → Ruling Model → Ruling Model
@@ -101,12 +122,12 @@ unfoldable pub ruling : Model → List ℕ → Ruling Model
 ruling m t = unlessRefused (refusalOf t) (perform (workOf (requestOf t)) m)
 
 -- 14: "more units after the ticket than the store has"
-unfoldable pub unlessFull : Slots → Ruling Model → Ruling Model
+unfoldable pub unlessFull : Fixed → Ruling Model → Ruling Model
 unlessFull s (refuse n) = refuse n
-unlessFull s (accept answer m) = cond (fits s m) (accept answer m) (refuse 14)
+unlessFull s (accept answer m) = unlessRefused (lackIn s m) (accept answer m)
 
 -- "The lowest number that applies is given; the call's result is then that number, with no answer words. An accepted call's result is 0."
-unfoldable pub step : Slots → Model → List ℕ → Ruling Model
+unfoldable pub step : Fixed → Model → List ℕ → Ruling Model
 step s m t = unlessFull s (ruling m t)
 
 -- A refused request leaves the model as it was.
@@ -124,7 +145,7 @@ outcomeOf (refuse n) = refused n
 outcomeOf (accept answer after) = answered answer
 
 -- The model that a list of requests leaves, each meeting the stores as the one before it left them.
-unfoldable pub after : Slots → Model → List (List ℕ) → Model
+unfoldable pub after : Fixed → Model → List (List ℕ) → Model
 after s m [] = m
 after s m (t ∷ ts) = after s (leftBy m (step s m t)) ts
 
@@ -133,6 +154,6 @@ pub record Turn : Type 0 where
   pub request : List ℕ
   pub outcome : Outcome
 
-unfoldable pub turns : Slots → Model → List (List ℕ) → List Turn
+unfoldable pub turns : Fixed → Model → List (List ℕ) → List Turn
 turns s m [] = []
 turns s m (t ∷ ts) = record { request = t; outcome = outcomeOf (step s m t) } ∷ turns s (leftBy m (step s m t)) ts

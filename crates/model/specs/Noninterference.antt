@@ -6,10 +6,11 @@ use mathlib.Core.Option.{Option, none, some}
 use Prim.Native.Nat.{ℕ}
 use lib.Dec.{leb, ltb, eqb}
 use lib.ListN.{getD}
+use Rattle.lists.specs.Lists.{every, keep}
+use Rattle.types.specs.Refusal.{ofUnits, isIn}
 use Rattle.request.specs.Table.{Purpose, Edits, Reads, Materializes, Finalizes, IndexField}
 use Rattle.request.specs.Request.{rowAt, shapeOk, fieldsOk}
-use Rattle.model.specs.Rows.{keep, every}
-use Rattle.model.specs.Model.{Slots, Outcome, refused, answered, Turn, turns, empty}
+use Rattle.model.specs.Model.{Fixed, Outcome, refused, answered, Turn, turns, empty}
 
 -- An index that a request names, and to what end.
 pub record Named : Type 0 where
@@ -53,7 +54,7 @@ keptTurns t ts = keep (λ turn. isKept t (turn .request)) ts
 
 -- "Lack of units is 14"
 unfoldable pub lacks : Outcome → Bool
-lacks (refused n) = eqb n 14
+lacks (refused n) = isIn n ofUnits
 lacks (answered words) = false
 
 unfoldable pub isAnswered : Outcome → Bool
@@ -77,7 +78,7 @@ quiet t ts = every (isQuiet t) ts
 -- have the same outcome.
 abbrev pub Noninterference : Type 0
 Noninterference =
-    (slots : Slots) (t : ℕ) (xs ys : List (List ℕ)) →
+    (slots : Fixed) (t : ℕ) (xs ys : List (List ℕ)) →
     kept t xs ≡ kept t ys →
     quiet t (turns slots empty xs) ≡ true →
     quiet t (turns slots empty ys) ≡ true →

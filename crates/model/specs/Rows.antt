@@ -1,23 +1,16 @@
 -- Rows in rising order of key and place: what a store holds, seen as a finite map. The place is a shifted index, or the tag of a committed value.
-use mathlib.Core.Bool.{Bool, true, cond, not, _&&_, _||_}
+use mathlib.Core.Bool.{Bool, true, not, _&&_, _||_}
 use mathlib.Core.List.{List, [], _∷_, _++_, reverse}
 use lib.ListN.{length, take}
 use mathlib.Core.Option.{Option, none, some}
 use Prim.Native.Nat.{ℕ}
 use lib.Dec.{leb, ltb, eqb}
+use Rattle.lists.specs.Lists.{every, front, keep}
 
 pub record Row (A : Type 0) : Type 0 where
   pub key : ℕ
   pub place : ℕ
   pub held : A
-
-unfoldable pub keep : {A : Type 0} → (A → Bool) → List A → List A
-keep p [] = []
-keep p (x ∷ xs) = cond (p x) (x ∷ keep p xs) (keep p xs)
-
-unfoldable pub every : {A : Type 0} → (A → Bool) → List A → Bool
-every p [] = true
-every p (x ∷ xs) = p x && every p xs
 
 -- Whether a row stands below a key and place, at them, or above them.
 unfoldable pub isBelow : {A : Type 0} → ℕ → ℕ → Row A → Bool
@@ -77,11 +70,6 @@ rank k p rs = length (keep (isBelow k p) rs)
 
 unfoldable pub rowAt : {A : Type 0} → ℕ → ℕ → A → Row A
 rowAt k p a = record { key = k; place = p; held = a }
-
--- The elements at the front that pass a test.
-unfoldable pub front : {A : Type 0} → (A → Bool) → List A → List A
-front p [] = []
-front p (x ∷ xs) = cond (p x) (x ∷ front p xs) []
 
 -- The walk down a key's rows from a position.
 unfoldable pub downAt : {A : Type 0} → ℕ → ℕ → List (Row A) → List (Row A)

@@ -4,7 +4,7 @@ use Prim.Native.Nat.{ℕ, zero, suc, _+_, _*_, _^_}
 use lib.IntN.{pos, negsuc}
 use Rattle.number.specs.Words.{digits}
 use Rattle.delta.specs.Delta.{Delta, deltaWords}
-use Rattle.types.specs.Response.{response}
+use Rattle.types.specs.Response.{response, doneKind, versionedKind, resolvedKind, unresolvedKind, uninitializedKind, tagNotFoundKind, dependencyKind, applicationFailureKind, sizeKind, committedKind, wroteOutsideKind, versionedAtBaseKind}
 use Rattle.request.specs.Set.{Member}
 use Rattle.request.specs.Request.{Request, lastCommitted, base, write, addDelta, estimate, remove, fetch, materialize, groupBase, exchange, groupWrite, groupEstimate, groupRemove, groupFetch, groupSize, finalize}
 use Rattle.model.specs.Model.{Model, workOf, perform, leftBy, Outcome, answered, outcomeOf, Turn}
@@ -24,67 +24,67 @@ unfoldable pub setAndValues : List Member → List ℕ
 setAndValues ms = digits 2 (bitsOf ms) ++ valuesIn ms
 
 -- The words of a request: its kind's number, then the table's fields. A ticket's head and an answer's have the same shape.
-unfoldable pub wordsOf : Request → List ℕ
-wordsOf (lastCommitted key) = response 0 (key ∷ [])
-wordsOf (base key value) = response 1 (key ∷ value)
-wordsOf (write key index incarnation value) = response 2 (key ∷ index ∷ incarnation ∷ value)
-wordsOf (addDelta key index d) = response 3 (key ∷ index ∷ deltaWords d)
-wordsOf (estimate key index) = response 4 (key ∷ index ∷ [])
-wordsOf (remove key index) = response 5 (key ∷ index ∷ [])
-wordsOf (fetch key index) = response 6 (key ∷ index ∷ [])
-wordsOf (materialize key index) = response 7 (key ∷ index ∷ [])
-wordsOf (groupBase key members) = response 8 (key ∷ setAndValues members)
-wordsOf (exchange key tag value) = response 9 (key ∷ tag ∷ value)
-wordsOf (groupWrite key index incarnation members) = response 10 (key ∷ index ∷ incarnation ∷ setAndValues members)
-wordsOf (groupEstimate key index) = response 11 (key ∷ index ∷ [])
-wordsOf (groupRemove key index) = response 12 (key ∷ index ∷ [])
-wordsOf (groupFetch key tag index) = response 13 (key ∷ tag ∷ index ∷ [])
-wordsOf (groupSize key index) = response 14 (key ∷ index ∷ [])
-wordsOf (finalize key index) = response 15 (key ∷ index ∷ [])
+unfoldable pub requestWords : Request → List ℕ
+requestWords (lastCommitted key) = response 0 (key ∷ [])
+requestWords (base key value) = response 1 (key ∷ value)
+requestWords (write key index incarnation value) = response 2 (key ∷ index ∷ incarnation ∷ value)
+requestWords (addDelta key index d) = response 3 (key ∷ index ∷ deltaWords d)
+requestWords (estimate key index) = response 4 (key ∷ index ∷ [])
+requestWords (remove key index) = response 5 (key ∷ index ∷ [])
+requestWords (fetch key index) = response 6 (key ∷ index ∷ [])
+requestWords (materialize key index) = response 7 (key ∷ index ∷ [])
+requestWords (groupBase key members) = response 8 (key ∷ setAndValues members)
+requestWords (exchange key tag value) = response 9 (key ∷ tag ∷ value)
+requestWords (groupWrite key index incarnation members) = response 10 (key ∷ index ∷ incarnation ∷ setAndValues members)
+requestWords (groupEstimate key index) = response 11 (key ∷ index ∷ [])
+requestWords (groupRemove key index) = response 12 (key ∷ index ∷ [])
+requestWords (groupFetch key tag index) = response 13 (key ∷ tag ∷ index ∷ [])
+requestWords (groupSize key index) = response 14 (key ∷ index ∷ [])
+requestWords (finalize key index) = response 15 (key ∷ index ∷ [])
 
 -- A request, or its words, and the outcome that 01 gives it.
 unfoldable pub _⟹_ : List ℕ → Outcome → Turn
 words ⟹ o = record { request = words; outcome = o }
 
 unfoldable pub _⇒_ : Request → Outcome → Turn
-q ⇒ o = wordsOf q ⟹ o
+q ⇒ o = requestWords q ⟹ o
 
 -- The answers of 01 by their kinds.
 unfoldable pub done : Outcome
-done = answered (response 0 [])
+done = answered (response doneKind [])
 
 unfoldable pub wroteOutside : Outcome
-wroteOutside = answered (response 10 [])
+wroteOutside = answered (response wroteOutsideKind [])
 
 unfoldable pub uninitialized : Outcome
-uninitialized = answered (response 4 [])
+uninitialized = answered (response uninitializedKind [])
 
 unfoldable pub tagNotFound : Outcome
-tagNotFound = answered (response 5 [])
+tagNotFound = answered (response tagNotFoundKind [])
 
 unfoldable pub applicationFailure : Outcome
-applicationFailure = answered (response 7 [])
+applicationFailure = answered (response applicationFailureKind [])
 
 unfoldable pub versioned : ℕ → ℕ → List ℕ → Outcome
-versioned index incarnation value = answered (response 1 (index ∷ incarnation ∷ value))
+versioned index incarnation value = answered (response versionedKind (index ∷ incarnation ∷ value))
 
 unfoldable pub atBase : List ℕ → Outcome
-atBase value = answered (response 11 value)
+atBase value = answered (response versionedAtBaseKind value)
 
 unfoldable pub resolved : ℕ → Outcome
-resolved n = answered (response 2 (digits 4 n))
+resolved n = answered (response resolvedKind (digits 4 n))
 
 unfoldable pub unresolved : Delta → Outcome
-unresolved d = answered (response 3 (deltaWords d))
+unresolved d = answered (response unresolvedKind (deltaWords d))
 
 unfoldable pub dependency : ℕ → Outcome
-dependency index = answered (response 6 (index ∷ []))
+dependency index = answered (response dependencyKind (index ∷ []))
 
 unfoldable pub size : ℕ → ℕ → Outcome
-size members sum = answered (response 8 (members ∷ sum ∷ []))
+size members sum = answered (response sizeKind (members ∷ sum ∷ []))
 
 unfoldable pub committed : List Member → Outcome
-committed members = answered (response 9 (setAndValues members))
+committed members = answered (response committedKind (setAndValues members))
 
 -- "Head: bits 30-31 kind ..; bit 29 is 1 for `Exchanged` ..; bits 0-28 byte length .. Then layout .., handle .., and a 128-bit number"
 unfoldable pub valueWords : (kind exchanged length layout number : ℕ) → List ℕ

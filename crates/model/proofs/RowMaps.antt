@@ -3,16 +3,17 @@
 -- Assumes nothing.
 use mathlib.Core.Path.{_≡_, refl, sym, _∙_, ap, ap₂}
 use mathlib.Core.Bool.{Bool, true, false, not, _&&_}
-use mathlib.Core.List.{List, [], _∷_, _++_}
+use mathlib.Core.List.{List, [], _∷_}
 use mathlib.Core.Option.{Option, none, some}
 use Prim.Native.Nat.{ℕ}
 use native.Mathlib.Omega.{arith}
-use borrow.Author.Tests.{eq-eqb}
-use Rattle.model.specs.Rows.{Row, keep, every, isBelow, isAt, isAbove, rising, heldFirst, find, put, erase, isUpTo, downFrom, Edit, leave, set, clear, edited}
-use Rattle.model.proofs.Lists.{and-left, and-right, and-both, keep-append, keep-stronger, keep-none, every-imp, every-keep, every-kept, every-append, every-reverse}
-use Rattle.model.proofs.Rows.{Side, lower, here, upper, side, split, at-key, at-place, above-not-at, below-not-at, at-above, above-above, above-tell, below-told, rising-edited}
+use Rattle.lists.specs.Lists.{every, keep}
+use Rattle.lists.proofs.Bools.{and-both, and-left, and-right}
+use Rattle.lists.proofs.Lists.{every-imp, every-join, every-keep, every-reverse, keep-none}
+use Rattle.model.specs.Rows.{Row, isBelow, isAt, isAbove, rising, heldFirst, find, put, erase, isUpTo, downFrom, Edit, leave, set, clear, edited}
+use Rattle.model.proofs.Rows.{Side, lower, here, upper, side, at-key, at-place, above-not-at, at-above, above-above, above-tell, below-told, rising-edited}
 use Rattle.model.specs.Rows.{rowAt}
-use Rattle.model.proofs.Places.{new-is-at}
+use Rattle.model.proofs.RowPlaces.{new-is-at}
 
 -- What a test of a row says of what stands at a key and place, and of an edit there.
 unfoldable pub passes : {A : Type 0} → (Row A → Bool) → ℕ → ℕ → Option A → Bool
@@ -40,7 +41,7 @@ module _ {A : Type 0} where
   pub every-put : (t : Row A → Bool) (k p : ℕ) (a : A) (rows : List (Row A)) → t (rowAt k p a) ≡ true → every t rows ≡ true → every t (put k p a rows) ≡ true
   unfolding put every rowAt
   every-put t k p a rows n h =
-      every-append t (keep (isBelow k p) rows) (rowAt k p a ∷ keep (isAbove k p) rows) (every-keep t (isBelow k p) rows h)
+      every-join t (keep (isBelow k p) rows) (rowAt k p a ∷ keep (isAbove k p) rows) (every-keep t (isBelow k p) rows h)
       (and-both (t (rowAt k p a)) (every t (keep (isAbove k p) rows)) n (every-keep t (isAbove k p) rows h))
 
   pub every-erase : (t : Row A → Bool) (k p : ℕ) (rows : List (Row A)) → every t rows ≡ true → every t (erase k p rows) ≡ true

@@ -8,16 +8,17 @@ use Prim.Native.Nat.{ℕ}
 use native.Mathlib.Omega.{arith}
 use lib.Dec.{eqb}
 use borrow.Author.Tests.{eqb-true, not-true}
+use Rattle.lists.specs.Lists.{every}
+use Rattle.lists.proofs.Bools.{and-left, and-right}
 use Rattle.delta.specs.Delta.{Delta, valid, applyNext, merge, Accumulated, nothing, merged, failed, gathered, accumulate}
-use Rattle.delta.proofs.Merging.{joined-limit, merge-joins, merge-valid, merge-apply, merge-apart}
+use Rattle.delta.proofs.DeltaMerges.{joined-limit, merge-joins, merge-valid, merge-apply, merge-apart}
 use Rattle.types.specs.Value.{layoutOf, isDeletion, byteLength, hasNumber, numberIn}
 use Rattle.request.specs.Request.{fetch}
-use Rattle.model.specs.Rows.{Row, every, downFrom}
+use Rattle.model.specs.Rows.{Row, downFrom}
 use Rattle.model.specs.Data
 use Rattle.model.specs.Data.{Entry, Read, walk, atRow, atCell, atWrite, belowDeltas, onto, resolvedOr, past, readOf, readRuling, fetchData}
 use Rattle.model.specs.Model.{Model, workOf, ruled, perform, Outcome, outcomeOf}
 use Rattle.model.specs.Tickets.{outcome, resolved, applicationFailure}
-use Rattle.model.proofs.Lists.{and-left, and-right}
 
 -- Done deltas without a shortcut, the newest first, as a walk meets them.
 unfoldable pub run : List (Row Delta) → List (Row Entry)

@@ -7,21 +7,21 @@ use mathlib.Core.Option.{Option, none, some}
 use Prim.Native.Nat.{ℕ, zero, suc, _-_, _≤_, _<_}
 use native.Mathlib.Omega.{arith}
 use native.Mathlib.Decide.{ℕ-discrete}
-use Rattle.types.specs.Response.{response}
+use Rattle.types.specs.Response.{response, versionedKind, dependencyKind}
 use Rattle.request.specs.Set.{Member}
 use Rattle.request.specs.Request.{groupWrite, groupEstimate, groupRemove, groupFetch}
 use Rattle.model.specs.Rows.{Row, rising, find, put, edited}
 use Rattle.model.specs.Data.{versionedAnswer}
-use Rattle.model.specs.Group.{Update, valueOf, writeGroup, markGroup, removeGroup, Latest, nearest, latest, dependencyAnswer, latestAnswer, fetchTaggedData}
+use Rattle.model.specs.Group.{Update, memberValue, writeGroup, markGroup, removeGroup, Latest, nearest, latest, dependencyAnswer, latestAnswer, fetchTaggedData}
 use Rattle.model.specs.Model.{Model, workOf, ruled, withUpdates, perform, leftBy, outcomeOf, answered}
 use Rattle.model.specs.Tickets.{outcome, left, versioned, dependency}
 use Rattle.model.proofs.Rows.{rising-put}
-use Rattle.model.proofs.Lookups.{find-put-same, find-put-other, rowsAt, down, downFrom-find, erase-put}
+use Rattle.model.proofs.RowLookups.{find-put-same, find-put-other, rowsAt, down, downFrom-find, erase-put}
 
 -- The value of a tag in what stands at a place.
 unfoldable pub valueIn : ℕ → Option Update → Option (List ℕ)
 valueIn tag none = none
-valueIn tag (some u) = valueOf tag (u .members)
+valueIn tag (some u) = memberValue tag (u .members)
 
 -- No update of a key has the tag at the indexes from the one after `index` up to the one before t.
 abbrev pub NoneTagged : Model → ℕ → ℕ → ℕ → ℕ → Type 0
@@ -35,12 +35,12 @@ unfolding valueIn latest rowsAt nearest
 latest-above tag k p none rest e = refl
 latest-above tag k p (some u) rest e = rw e
 
-latest-here : (tag k p : ℕ) (u : Update) (v : List ℕ) (rest : List (Row Update)) → valueOf tag (u .members) ≡ some v → latest tag (rowsAt k p (some u) ++ rest) ≡ some (latestOf p u v)
+latest-here : (tag k p : ℕ) (u : Update) (v : List ℕ) (rest : List (Row Update)) → memberValue tag (u .members) ≡ some v → latest tag (rowsAt k p (some u) ++ rest) ≡ some (latestOf p u v)
 unfolding latest rowsAt nearest latestOf
 latest-here tag k p u v rest e = rw e
 
 -- the nearest update that has the tag is the one that is found
-latest-down : (tag k p n : ℕ) (at : ℕ → Option Update) (u : Update) (v : List ℕ) → p ≤ n → at p ≡ some u → valueOf tag (u .members) ≡ some v →
+latest-down : (tag k p n : ℕ) (at : ℕ → Option Update) (u : Update) (v : List ℕ) → p ≤ n → at p ≡ some u → memberValue tag (u .members) ≡ some v →
     ((q : ℕ) → p < q → q ≤ n → valueIn tag (at q) ≡ none) → latest tag (down k at n) ≡ some (latestOf p u v)
 unfolding down
 latest-down tag k p zero at u v h e f free =
@@ -56,13 +56,13 @@ latest-down tag k p (suc n) at u v h e f free =
 -- A tag's value in an update is what every reader above sees, or waits for where the update is an estimate, up to the next nearer update that
 -- has the tag.
 module _ (m : Model) (key tag index t : ℕ) (g : rising (m .updates) ≡ true) (h : index < t) (free : NoneTagged m key tag index t) where
-  pub fetch-tag : (u : Update) (v : List ℕ) → find key (suc index) (m .updates) ≡ some u → valueOf tag (u .members) ≡ some v →
+  pub fetch-tag : (u : Update) (v : List ℕ) → find key (suc index) (m .updates) ≡ some u → memberValue tag (u .members) ≡ some v →
       outcome (groupFetch key tag t) m ≡ cond (u .estimate) (dependency index) (versioned index (u .incarnation) v)
   unfolding outcome workOf perform ruled outcomeOf fetchTaggedData latestAnswer dependency versioned versionedAnswer dependencyAnswer latestOf
   fetch-tag u v e f = rw (downFrom-find key t (m .updates) g, latest-down tag key (suc index) t (λ p. find key p (m .updates)) u v h e f free) (go (u .estimate))
     where
-      go : (b : Bool) → answered (cond b (response 6 ((suc index - 1) ∷ [])) (response 1 (index ∷ u .incarnation ∷ v))) ≡ cond b (answered (response 6 (index ∷ []))) (answered (response 1 (index ∷ u .incarnation ∷ v)))
-      go true = ap (λ (i : ℕ). answered (response 6 (i ∷ []))) (omega arith)
+      go : (b : Bool) → answered (cond b (response dependencyKind ((suc index - 1) ∷ [])) (response versionedKind (index ∷ u .incarnation ∷ v))) ≡ cond b (answered (response 6 (index ∷ []))) (answered (response 1 (index ∷ u .incarnation ∷ v)))
+      go true = ap (λ (i : ℕ). answered (response dependencyKind (i ∷ []))) (omega arith)
       go false = refl
 
 -- ---- a request, and the reads after it
@@ -102,7 +102,7 @@ module _ (m : Model) (key index : ℕ) where
 
   module _ (tag t : ℕ) (g : rising (m .updates) ≡ true) (h : index < t) (free : NoneTagged m key tag index t) (v : List ℕ) where
     -- What is written to a tag is what a reader above sees until something nearer is written to it.
-    pub groupWrite-fetch : (incarnation : ℕ) (members : List Member) → valueOf tag members ≡ some v →
+    pub groupWrite-fetch : (incarnation : ℕ) (members : List Member) → memberValue tag members ≡ some v →
         outcome (groupFetch key tag t) (left (groupWrite key index incarnation members) m) ≡ versioned index incarnation v
     unfolding written
     groupWrite-fetch incarnation members f =
@@ -111,7 +111,7 @@ module _ (m : Model) (key index : ℕ) where
         ∙ fetch-tag (with m key index u) key tag index t (with-rising m key index u g) h (with-between m key index u tag t free) u v (with-here m key index u) f
 
     -- An estimated update is a dependency to every reader of its tags above it, until something nearer is written to the tag.
-    pub groupEstimate-fetch : (u : Update) → find key (suc index) (m .updates) ≡ some u → valueOf tag (u .members) ≡ some v →
+    pub groupEstimate-fetch : (u : Update) → find key (suc index) (m .updates) ≡ some u → memberValue tag (u .members) ≡ some v →
         outcome (groupFetch key tag t) (left (groupEstimate key index) m) ≡ dependency index
     unfolding marked
     groupEstimate-fetch u e f =

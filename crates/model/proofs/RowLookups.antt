@@ -9,10 +9,11 @@ use native.Mathlib.Omega.{arith}
 use native.Mathlib.Decide.{ℕ-discrete}
 use lib.Dec.{leb, ltb, eqb, leb·suc-suc}
 use borrow.Author.Tests.{leb-true, eqb-true, le-ltb, le-leb, lt-leb, eq-eqb}
-use Rattle.model.specs.Rows.{Row, keep, every, isBelow, isAt, isAbove, rising, heldFirst, find, put, erase, isUpTo, downFrom, Edit, leave, set, clear, edited}
-use Rattle.model.proofs.Lists.{keep-both, keep-append, keep-stronger, keep-none, keep-all, every-kept, every-imp}
+use Rattle.lists.specs.Lists.{every, keep}
+use Rattle.lists.proofs.Lists.{every-imp, every-kept, keep-all, keep-append, keep-both, keep-none, keep-stronger}
+use Rattle.model.specs.Rows.{Row, isBelow, isAt, isAbove, rising, heldFirst, find, put, erase, isUpTo, downFrom}
 use Rattle.model.specs.Rows.{rowAt}
-use Rattle.model.proofs.Places.{at-absent, at-present}
+use Rattle.model.proofs.RowPlaces.{at-absent, at-present}
 use Rattle.model.proofs.Rows.{Side, lower, here, upper, side, at-key, at-place, above-not-at, below-not-at, split}
 
 -- ---- look-ups after an edit
@@ -90,12 +91,6 @@ module _ {A : Type 0} where
         kept : (r : Row A) → isAt l q r ≡ true → (b : Bool) → isAt k p r ≡ b → not (isAt k p r) ≡ true
         kept r e true f = absurd (apart (sym (at-key l q r e) ∙ at-key k p r f) (sym (at-place l q r e) ∙ at-place k p r f))
         kept r e false f = rw f
-
-    pub find-edited-other : (e : Edit A) (rs : List (Row A)) → find l q (edited k p e rs) ≡ find l q rs
-    unfolding edited
-    find-edited-other leave rs = refl
-    find-edited-other (set a) rs = find-put-other a rs
-    find-edited-other clear rs = find-erase-other rs
 
   pub find-erase-same : (k p : ℕ) (rs : List (Row A)) → find k p (erase k p rs) ≡ none
   unfolding find erase heldFirst

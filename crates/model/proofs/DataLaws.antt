@@ -7,7 +7,8 @@ use mathlib.Core.Option.{Option, none, some}
 use Prim.Native.Nat.{ℕ, suc, _≤_, _<_, _-_}
 use native.Mathlib.Omega.{arith}
 use Rattle.delta.specs.Delta.{Delta}
-use Rattle.types.specs.Response.{response}
+use Rattle.types.specs.Refusal.{nothingThere, incarnationNotHigher}
+use Rattle.types.specs.Response.{response, doneKind, dependencyKind}
 use Rattle.request.specs.Request.{write, addDelta, estimate, remove, fetch}
 use Rattle.model.specs.Rows.{Row, rising, find, put, downFrom, edited}
 use Rattle.model.specs.Data
@@ -15,7 +16,7 @@ use Rattle.model.specs.Data.{Entry, doneAnswer, walk, atRow, atCell, atW
 use Rattle.model.specs.Model.{Model, workOf, ruled, withEntries, perform, leftBy, outcomeOf, refused, answered}
 use Rattle.model.specs.Tickets.{outcome, left, done, versioned, dependency}
 use Rattle.model.proofs.Rows.{rising-put}
-use Rattle.model.proofs.Lookups.{find-put-same, find-put-other, downFrom-find, down-nearest, erase-put}
+use Rattle.model.proofs.RowLookups.{find-put-same, find-put-other, downFrom-find, down-nearest, erase-put}
 
 -- No entry of a key at the indexes from the one after `index` up to the one before t.
 abbrev pub NoneBetween : Model → ℕ → ℕ → ℕ → Type 0
@@ -67,7 +68,7 @@ module _ (m : Model) (key t : ℕ) where
       let w = nearest m key index t e g f h free in
       fetched (Data.dependency (suc index - 1))
       (ap readOf (w .1) ∙ read-estimate (record { key = key; place = suc index; held = e }) (w .0) b)
-      ∙ ap (λ (i : ℕ). answered (response 6 (i ∷ []))) (omega arith)
+      ∙ ap (λ (i : ℕ). answered (response dependencyKind (i ∷ []))) (omega arith)
 
 -- ---- a request, and the reads after it
 
@@ -97,7 +98,7 @@ module _ (m : Model) (key index : ℕ) where
       go : (b : Bool) → mayWrite incarnation (find key (suc index) (m .entries)) ≡ b →
           left (write key index incarnation value) m ≡ with m key index (Data.done (Data.write incarnation value))
       go true f = rw f
-      go false f = absurd (let z : refused 7 ≡ answered (response 0 []) = rw f at d in let y : _≡_ {A = ℕ} 0 1 = cc in omega arith)
+      go false f = absurd (let z : refused incarnationNotHigher ≡ answered (response doneKind []) = rw f at d in let y : _≡_ {A = ℕ} 0 1 = cc in omega arith)
 
   left-estimate : outcome (estimate key index) m ≡ done →
       (e : Entry) × (e .estimate ≡ true) × (left (estimate key index) m ≡ with m key index e)
@@ -105,7 +106,7 @@ module _ (m : Model) (key index : ℕ) where
   left-estimate d = go (find key (suc index) (m .entries)) refl
     where
       go : (o : Option Entry) → find key (suc index) (m .entries) ≡ o → (e : Entry) × (e .estimate ≡ true) × (left (estimate key index) m ≡ with m key index e)
-      go none f = absurd (let z : refused 6 ≡ answered (response 0 []) = rw f at d in let y : _≡_ {A = ℕ} 0 1 = cc in omega arith)
+      go none f = absurd (let z : refused nothingThere ≡ answered (response doneKind []) = rw f at d in let y : _≡_ {A = ℕ} 0 1 = cc in omega arith)
       go (some e) f = (record { cell = e .cell; estimate = true }, refl, rw f)
 
   module _ (t : ℕ) (g : rising (m .entries) ≡ true) (h : index < t) (free : NoneBetween m key index t) where

@@ -3,7 +3,6 @@
 use mathlib.Core.Path.{_≡_, refl, _∙_}
 use mathlib.Core.Bool.{Bool, true, false}
 use mathlib.Core.List.{List, [], _∷_, map}
-use mathlib.Core.Option.{none}
 use Prim.Native.Nat.{ℕ, suc, _+_, _*_, _/_, _%_, _^_, _≤_, _<_}
 use native.Mathlib.Nat.{sub-zero}
 use native.Mathlib.Omega.{arith}
@@ -11,68 +10,68 @@ use lib.Dec.{eqb}
 use lib.ListN.{length, take, length-append, length-map}
 use lib.Seq.{take-all, take-at, drop-at}
 use borrow.Author.Tests.{le-leb, lt-ltb, eq-eqb, eqb-true}
+use Rattle.lists.specs.Lists.{every}
+use Rattle.lists.proofs.Bools.{and-left, and-right}
 use Rattle.number.specs.Words.{digits}
 use Rattle.number.specs.Number.{range}
 use Rattle.delta.specs.Delta.{Delta, valid}
-use Rattle.delta.proofs.Format.{length-deltaWords, valid-small, deltaAt-deltaWords, deltaOk-deltaWords}
+use Rattle.delta.proofs.DeltaFormat.{length-deltaWords, valid-small, deltaAt-deltaWords, deltaOk-deltaWords}
 use Rattle.types.specs.Value.{valueWidth, valueAt, valueOk, isDeletion}
-use Rattle.types.specs.Response.{response}
+use Rattle.types.specs.Response.{response, mostTags}
 use Rattle.request.specs.Table
 use Rattle.request.specs.Set.{tagsOf, Member, membersOf}
-use Rattle.request.proofs.Tags.{Rising, Below, tags-length-le}
-use Rattle.request.specs.Table.{Row, row, at, table, rowOf}
-use Rattle.request.specs.Request.{Request, lastCommitted, base, write, addDelta, estimate, remove, fetch, materialize, groupBase, exchange, groupWrite, groupEstimate, groupRemove, groupFetch, groupSize, finalize, rowAt, countOf, tagsAt, tags, members, shapeOk, exchangedOk, tagOk, all, rawOk, fieldsOk, lastIndex, indexIn, indexOk, refusalOf, requestAs, requestOf}
+use Rattle.request.proofs.SetTags.{Rising, Below, tags-length-le}
+use Rattle.request.specs.Table.{bySet, Row, row, at, table, rowOf}
+use Rattle.request.specs.Request.{Request, lastCommitted, base, write, addDelta, estimate, remove, fetch, materialize, groupBase, exchange, groupWrite, groupEstimate, groupRemove, groupFetch, groupSize, finalize, rowAt, countOf, tagsAt, tagsBy, tags, valueIn, deltaIn, members, tailLength, tailOk, countOk, shapeOk, exchangedOk, tagOk, all, rawOk, fieldsOk, lastIndex, indexIn, indexOk, refusalOf, requestAs, requestOf}
 use Rattle.model.specs.Model.{Model, workOf, perform, unlessRefused, ruling}
-use Rattle.model.specs.Tickets.{bitsOf, valuesIn, setAndValues, wordsOf}
-use Rattle.model.proofs.Lists.{and-left, and-right}
-use Rattle.model.proofs.LawsOfSets.{bits, tagsOf-bits}
-use Rattle.model.specs.Rows.{every}
+use Rattle.model.specs.Tickets.{bitsOf, valuesIn, setAndValues, requestWords}
+use Rattle.model.proofs.SetLaws.{bits, tagsOf-bits}
 
 -- 2, 3 and 4 let the words of a request through, and they ask for it.
 pub record Written (q : Request) : Type 0 where
-  pub accepted : refusalOf (wordsOf q) ≡ 0
-  pub asks : requestOf (wordsOf q) ≡ q
+  pub accepted : refusalOf (requestWords q) ≡ 0
+  pub asks : requestOf (requestWords q) ≡ q
 
 -- ---- kinds without a set
 
 written-lastCommitted : (key : ℕ) → Written (lastCommitted key)
-unfolding refusalOf wordsOf response shapeOk rowAt rowOf table row at countOf tags fieldsOk indexOk indexIn lastIndex requestOf requestAs
+unfolding refusalOf requestWords response shapeOk rowAt rowOf table row at countOf tailLength tailOk countOk fieldsOk indexOk indexIn lastIndex requestOf requestAs
 written-lastCommitted key = record { accepted = refl; asks = refl }
 
 written-estimate : (key index : ℕ) → index ≤ 4294967294 → Written (estimate key index)
-unfolding refusalOf wordsOf response shapeOk rowAt rowOf table row at countOf tags fieldsOk indexOk indexIn lastIndex requestOf requestAs
+unfolding refusalOf requestWords response shapeOk rowAt rowOf table row at countOf tailLength tailOk countOk fieldsOk indexOk indexIn lastIndex requestOf requestAs
 written-estimate key index h = record { accepted = rw (le-leb index 4294967294 h); asks = refl }
 
 written-remove : (key index : ℕ) → index ≤ 4294967294 → Written (remove key index)
-unfolding refusalOf wordsOf response shapeOk rowAt rowOf table row at countOf tags fieldsOk indexOk indexIn lastIndex requestOf requestAs
+unfolding refusalOf requestWords response shapeOk rowAt rowOf table row at countOf tailLength tailOk countOk fieldsOk indexOk indexIn lastIndex requestOf requestAs
 written-remove key index h = record { accepted = rw (le-leb index 4294967294 h); asks = refl }
 
 written-fetch : (key index : ℕ) → index ≤ 4294967294 → Written (fetch key index)
-unfolding refusalOf wordsOf response shapeOk rowAt rowOf table row at countOf tags fieldsOk indexOk indexIn lastIndex requestOf requestAs
+unfolding refusalOf requestWords response shapeOk rowAt rowOf table row at countOf tailLength tailOk countOk fieldsOk indexOk indexIn lastIndex requestOf requestAs
 written-fetch key index h = record { accepted = rw (le-leb index 4294967294 h); asks = refl }
 
 written-materialize : (key index : ℕ) → index ≤ 4294967293 → Written (materialize key index)
-unfolding refusalOf wordsOf response shapeOk rowAt rowOf table row at countOf tags fieldsOk indexOk indexIn lastIndex requestOf requestAs
+unfolding refusalOf requestWords response shapeOk rowAt rowOf table row at countOf tailLength tailOk countOk fieldsOk indexOk indexIn lastIndex requestOf requestAs
 written-materialize key index h = record { accepted = rw (le-leb index 4294967293 h); asks = refl }
 
 written-groupEstimate : (key index : ℕ) → index ≤ 4294967294 → Written (groupEstimate key index)
-unfolding refusalOf wordsOf response shapeOk rowAt rowOf table row at countOf tags fieldsOk indexOk indexIn lastIndex requestOf requestAs
+unfolding refusalOf requestWords response shapeOk rowAt rowOf table row at countOf tailLength tailOk countOk fieldsOk indexOk indexIn lastIndex requestOf requestAs
 written-groupEstimate key index h = record { accepted = rw (le-leb index 4294967294 h); asks = refl }
 
 written-groupRemove : (key index : ℕ) → index ≤ 4294967294 → Written (groupRemove key index)
-unfolding refusalOf wordsOf response shapeOk rowAt rowOf table row at countOf tags fieldsOk indexOk indexIn lastIndex requestOf requestAs
+unfolding refusalOf requestWords response shapeOk rowAt rowOf table row at countOf tailLength tailOk countOk fieldsOk indexOk indexIn lastIndex requestOf requestAs
 written-groupRemove key index h = record { accepted = rw (le-leb index 4294967294 h); asks = refl }
 
 written-groupSize : (key index : ℕ) → index ≤ 4294967294 → Written (groupSize key index)
-unfolding refusalOf wordsOf response shapeOk rowAt rowOf table row at countOf tags fieldsOk indexOk indexIn lastIndex requestOf requestAs
+unfolding refusalOf requestWords response shapeOk rowAt rowOf table row at countOf tailLength tailOk countOk fieldsOk indexOk indexIn lastIndex requestOf requestAs
 written-groupSize key index h = record { accepted = rw (le-leb index 4294967294 h); asks = refl }
 
 written-finalize : (key index : ℕ) → index ≤ 4294967294 → Written (finalize key index)
-unfolding refusalOf wordsOf response shapeOk rowAt rowOf table row at countOf tags fieldsOk indexOk indexIn lastIndex requestOf requestAs
+unfolding refusalOf requestWords response shapeOk rowAt rowOf table row at countOf tailLength tailOk countOk fieldsOk indexOk indexIn lastIndex requestOf requestAs
 written-finalize key index h = record { accepted = rw (le-leb index 4294967294 h); asks = refl }
 
 written-groupFetch : (key tag index : ℕ) → tag ≤ 63 → index ≤ 4294967294 → Written (groupFetch key tag index)
-unfolding refusalOf wordsOf response shapeOk rowAt rowOf table row at countOf tags fieldsOk indexOk indexIn lastIndex requestOf requestAs tagOk
+unfolding refusalOf requestWords response shapeOk rowAt rowOf table row at countOf tailLength tailOk countOk fieldsOk indexOk indexIn lastIndex requestOf requestAs tagOk
 written-groupFetch key tag index g h = record { accepted = rw (le-leb tag 63 g, le-leb index 4294967294 h); asks = refl }
 
 module _ (v : List ℕ) (wide : length v ≡ valueWidth) where
@@ -80,19 +79,19 @@ module _ (v : List ℕ) (wide : length v ≡ valueWidth) where
   whole = take-all valueWidth v (omega arith)
 
   written-base : (key : ℕ) → valueOk v ≡ true → Written (base key v)
-  unfolding refusalOf wordsOf response shapeOk rowAt rowOf table row at countOf tags fieldsOk indexOk indexIn lastIndex requestOf requestAs valueAt
+  unfolding refusalOf requestWords response shapeOk rowAt rowOf table row at countOf tailLength tailOk countOk fieldsOk indexOk indexIn lastIndex requestOf requestAs valueIn valueAt
   written-base key h = record { accepted = rw (wide, whole, h); asks = rw (wide, whole) }
 
   written-write : (key index incarnation : ℕ) → exchangedOk v ≡ true → index ≤ 4294967294 → Written (write key index incarnation v)
-  unfolding refusalOf wordsOf response shapeOk rowAt rowOf table row at countOf tags fieldsOk indexOk indexIn lastIndex requestOf requestAs valueAt
+  unfolding refusalOf requestWords response shapeOk rowAt rowOf table row at countOf tailLength tailOk countOk fieldsOk indexOk indexIn lastIndex requestOf requestAs valueIn valueAt
   written-write key index incarnation h l = record { accepted = rw (wide, whole, h, le-leb index 4294967294 l); asks = rw (wide, whole) }
 
   written-exchange : (key tag : ℕ) → exchangedOk v ≡ true → isDeletion v ≡ false → tag ≤ 63 → Written (exchange key tag v)
-  unfolding refusalOf wordsOf response shapeOk rowAt rowOf table row at countOf tags fieldsOk indexOk indexIn lastIndex requestOf requestAs valueAt tagOk
+  unfolding refusalOf requestWords response shapeOk rowAt rowOf table row at countOf tailLength tailOk countOk fieldsOk indexOk indexIn lastIndex requestOf requestAs valueIn valueAt tagOk
   written-exchange key tag h d l = record { accepted = rw (wide, whole, h, d, le-leb tag 63 l); asks = rw (wide, whole) }
 
 written-addDelta : (key index : ℕ) (d : Delta) → valid d ≡ true → d .limit < range → index ≤ 4294967294 → Written (addDelta key index d)
-unfolding refusalOf wordsOf response shapeOk rowAt rowOf table row at countOf tags fieldsOk indexOk indexIn lastIndex requestOf requestAs
+unfolding refusalOf requestWords response shapeOk rowAt rowOf table row at countOf tailLength tailOk countOk fieldsOk indexOk indexIn lastIndex requestOf requestAs deltaIn
 written-addDelta key index d v l h =
     let s = valid-small d v l in
     record {
@@ -144,11 +143,11 @@ module _ (ms : List Member) (w : Members ms) where
   set-back : tagsOf (bitsOf ms % 2 ^ 32) (bitsOf ms / 2 ^ 32 % 2 ^ 32) ≡ tagsIn ms
   set-back = rw (bitsOf-bits ms) (tagsOf-bits (tagsIn ms) (w .rising) (w .below))
 
-  few : length ms ≤ 64
+  few : length ms ≤ mostTags
   unfolding tagsIn
   few = rw (set-back, length-map ms (λ m. m .tag)) at (tags-length-le (bitsOf ms % 2 ^ 32) (bitsOf ms / 2 ^ 32 % 2 ^ 32))
 
-  short : length (valuesIn ms) ≤ 448
+  short : length (valuesIn ms) ≤ mostTags * valueWidth
   short = omega (arith, few, length-values ms (w .values))
 
   tag-count : length (tagsIn ms) ≡ length ms
@@ -163,9 +162,18 @@ count-of k n h = omega arith
 
 -- What the tests of 2, 3 and 4 come to, from a row of the table, the tags and the members.
 module _ (t : List ℕ) (r : Row) (ts : List ℕ) (is-row : rowAt t ≡ r) (is-tags : tags t ≡ ts) where
-  shape-is : r .fixed < length t → length t ≡ countOf t + 1 → countOf t ≡ r .fixed + r .each * length ts → shapeOk t ≡ true
-  unfolding shapeOk
-  shape-is a b c = rw (is-row, is-tags, lt-ltb (r .fixed) (length t) a, eq-eqb (length t) (countOf t + 1) b, eq-eqb (countOf t) (r .fixed + r .each * length ts) c)
+  shape-is : (each : ℕ) → r .tail ≡ bySet each → r .fixed < length t → length t ≡ countOf t + 1 → countOf t ≡ r .fixed + each * length ts → shapeOk t ≡ true
+  unfolding shapeOk countOk tailOk tailLength tags tagsBy
+  shape-is each by-set a b c =
+      let tags-are : tagsAt (r .fixed) t ≡ ts = rw (is-row, by-set) at is-tags in
+      rw (
+        is-row,
+        by-set,
+        tags-are,
+        lt-ltb (r .fixed) (length t) a,
+        eq-eqb (length t) (countOf t + 1) b,
+        eq-eqb (countOf t) (r .fixed + each * length ts) c,
+      )
 
   accepted-is : shapeOk t ≡ true → fieldsOk (r .kind) t ≡ true → indexIn (r .index) t ≡ true → refusalOf t ≡ 0
   unfolding refusalOf indexOk
@@ -173,40 +181,40 @@ module _ (t : List ℕ) (r : Row) (ts : List ℕ) (is-row : rowAt t ≡ r) (is-t
 
 module _ (ms : List Member) (w : Members ms) (key : ℕ) where
   unfoldable baseWords : List ℕ
-  baseWords = wordsOf (groupBase key ms)
+  baseWords = requestWords (groupBase key ms)
 
   base-count : countOf baseWords ≡ 3 + length (valuesIn ms)
-  unfolding baseWords countOf wordsOf response setAndValues digits
+  unfolding baseWords countOf requestWords response setAndValues digits
   base-count = count-of 8 (suc (suc (suc (length (valuesIn ms))))) (omega (arith, short ms w)) ∙ omega arith
 
-  base-row : rowAt baseWords ≡ row Table.GroupBase 3 valueWidth none
-  unfolding rowAt rowOf table row baseWords wordsOf response setAndValues digits at
+  base-row : rowAt baseWords ≡ rowOf 8
+  unfolding rowAt rowOf table row baseWords requestWords response setAndValues digits at
   base-row = rw (kind-of 8 (suc (suc (suc (length (valuesIn ms))))) (omega (arith, short ms w)))
 
   base-tags : tags baseWords ≡ tagsIn ms
   unfolding tags
-  base-tags = rw base-row (unfold tagsAt row baseWords wordsOf response setAndValues digits in set-back ms w)
+  base-tags = rw base-row (unfold tagsBy tagsAt rowOf table row baseWords requestWords response setAndValues digits in set-back ms w)
 
   base-members : members baseWords ≡ ms
   unfolding members
-  base-members = rw (base-tags, base-row) (unfold row baseWords wordsOf response setAndValues digits in membersOf-values ms (w .values))
+  base-members = rw (base-tags, base-row) (unfold rowOf table row baseWords requestWords response setAndValues digits in membersOf-values ms (w .values))
 
   base-long : length baseWords ≡ 4 + length (valuesIn ms)
-  unfolding baseWords wordsOf response setAndValues digits
+  unfolding baseWords requestWords response setAndValues digits
   base-long = omega arith
 
   base-accepted : all rawOk ms ≡ true → refusalOf baseWords ≡ 0
-  unfolding row
+  unfolding rowOf table row at
   base-accepted h =
-      let r = row Table.GroupBase 3 valueWidth none in
+      let r = rowOf 8 in
       accepted-is baseWords r (tagsIn ms) base-row base-tags
-      (shape-is baseWords r (tagsIn ms) base-row base-tags (omega (arith, base-long)) (omega (arith, base-long, base-count))
+      (shape-is baseWords r (tagsIn ms) base-row base-tags valueWidth refl (omega (arith, base-long)) (omega (arith, base-long, base-count))
       (omega (arith, base-count, length-values ms (w .values), tag-count ms w)))
       (unfold fieldsOk in rw base-members h) (unfold indexIn in refl)
 
   base-asks : requestOf baseWords ≡ groupBase key ms
-  unfolding requestOf row
-  base-asks = rw base-row (unfold requestAs in rw base-members (unfold baseWords wordsOf response in refl))
+  unfolding requestOf rowOf table row at
+  base-asks = rw base-row (unfold requestAs in rw base-members (unfold baseWords requestWords response in refl))
 
   written-groupBase : all rawOk ms ≡ true → Written (groupBase key ms)
   unfolding baseWords
@@ -214,40 +222,40 @@ module _ (ms : List Member) (w : Members ms) (key : ℕ) where
 
 module _ (ms : List Member) (w : Members ms) (key index incarnation : ℕ) where
   unfoldable writeWords : List ℕ
-  writeWords = wordsOf (groupWrite key index incarnation ms)
+  writeWords = requestWords (groupWrite key index incarnation ms)
 
   write-count : countOf writeWords ≡ 5 + length (valuesIn ms)
-  unfolding writeWords countOf wordsOf response setAndValues digits
+  unfolding writeWords countOf requestWords response setAndValues digits
   write-count = count-of 10 (suc (suc (suc (suc (suc (length (valuesIn ms))))))) (omega (arith, short ms w)) ∙ omega arith
 
-  write-row : rowAt writeWords ≡ row Table.GroupWrite 5 valueWidth (at 2 Table.Edits)
-  unfolding rowAt rowOf table row writeWords wordsOf response setAndValues digits at
+  write-row : rowAt writeWords ≡ rowOf 10
+  unfolding rowAt rowOf table row writeWords requestWords response setAndValues digits at
   write-row = rw (kind-of 10 (suc (suc (suc (suc (suc (length (valuesIn ms))))))) (omega (arith, short ms w)))
 
   write-tags : tags writeWords ≡ tagsIn ms
   unfolding tags
-  write-tags = rw write-row (unfold tagsAt row writeWords wordsOf response setAndValues digits in set-back ms w)
+  write-tags = rw write-row (unfold tagsBy tagsAt rowOf table row writeWords requestWords response setAndValues digits in set-back ms w)
 
   write-members : members writeWords ≡ ms
   unfolding members
-  write-members = rw (write-tags, write-row) (unfold row writeWords wordsOf response setAndValues digits in membersOf-values ms (w .values))
+  write-members = rw (write-tags, write-row) (unfold rowOf table row writeWords requestWords response setAndValues digits in membersOf-values ms (w .values))
 
   write-long : length writeWords ≡ 6 + length (valuesIn ms)
-  unfolding writeWords wordsOf response setAndValues digits
+  unfolding writeWords requestWords response setAndValues digits
   write-long = omega arith
 
   write-accepted : all exchangedOk ms ≡ true → index ≤ 4294967294 → refusalOf writeWords ≡ 0
-  unfolding row
+  unfolding rowOf table row at
   write-accepted h l =
-      let r = row Table.GroupWrite 5 valueWidth (at 2 Table.Edits) in
+      let r = rowOf 10 in
       accepted-is writeWords r (tagsIn ms) write-row write-tags
-      (shape-is writeWords r (tagsIn ms) write-row write-tags (omega (arith, write-long)) (omega (arith, write-long, write-count))
+      (shape-is writeWords r (tagsIn ms) write-row write-tags valueWidth refl (omega (arith, write-long)) (omega (arith, write-long, write-count))
       (omega (arith, write-count, length-values ms (w .values), tag-count ms w)))
-      (unfold fieldsOk in rw write-members h) (unfold at indexIn lastIndex writeWords wordsOf response in le-leb index 4294967294 l)
+      (unfold fieldsOk in rw write-members h) (unfold at indexIn lastIndex writeWords requestWords response in le-leb index 4294967294 l)
 
   write-asks : requestOf writeWords ≡ groupWrite key index incarnation ms
-  unfolding requestOf row
-  write-asks = rw write-row (unfold requestAs in rw write-members (unfold writeWords wordsOf response in refl))
+  unfolding requestOf rowOf table row at
+  write-asks = rw write-row (unfold requestAs in rw write-members (unfold writeWords requestWords response in refl))
 
   written-groupWrite : all exchangedOk ms ≡ true → index ≤ 4294967294 → Written (groupWrite key index incarnation ms)
   unfolding writeWords
@@ -294,6 +302,6 @@ written (groupSize key index) f = written-groupSize key index f
 written (finalize key index) f = written-finalize key index f
 
 -- The words of such a request do what the request does.
-pub ruling-wordsOf : (q : Request) (m : Model) → Fit q → ruling m (wordsOf q) ≡ perform (workOf q) m
+pub ruling-wordsOf : (q : Request) (m : Model) → Fit q → ruling m (requestWords q) ≡ perform (workOf q) m
 unfolding ruling unlessRefused
 ruling-wordsOf q m f = rw (written q f .accepted, written q f .asks)

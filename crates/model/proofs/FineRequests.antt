@@ -1,28 +1,30 @@
 -- What the checks of a request's words give: where 2, 3 and 4 do not refuse it, its fields are fine.
 -- Assumes nothing.
-use mathlib.Core.Path.{_≡_, refl, _∙_, ap}
+use mathlib.Core.Path.{_≡_, refl}
 use mathlib.Core.Bool.{Bool, true, false, cond, not, _&&_}
 use mathlib.Core.List.{List, [], _∷_}
 use mathlib.Core.Option.{Option, none}
-use Prim.Native.Nat.{ℕ, zero, suc, _+_, _*_, _-_, _/_, _^_, _≤_, _<_}
-use native.Mathlib.Nat.{zero-mul}
+use Prim.Native.Nat.{ℕ, zero, suc, _+_, _*_, _-_, _≤_, _<_}
 use native.Mathlib.Omega.{arith}
-use lib.Dec.{leb, ltb, eqb, lit<, eqb·suc-zero}
+use lib.Dec.{leb, eqb, lit<, eqb·suc-zero}
 use lib.ListN.{length, getD, take, drop, length-drop}
 use lib.Seq.{length-take-le}
-use borrow.Author.Tests.{ltb-true, leb-true, le-leb, eqb-true, eq-eqb}
+use borrow.Author.Tests.{leb-true, le-leb, eq-eqb}
+use Rattle.lists.specs.Lists.{every}
+use Rattle.lists.proofs.Bools.{and-both, and-left, and-right}
+use Rattle.lists.proofs.Lists.{every-drop, every-getD, every-take}
 use Rattle.delta.specs.Delta.{deltaAt, deltaOk}
-use Rattle.delta.proofs.Format.{ok-valid, deltaAt-small}
+use Rattle.delta.proofs.DeltaFormat.{ok-valid, deltaAt-small}
 use Rattle.types.specs.Value.{valueWidth, valueAt, valueOk, isExchanged, isDeletion}
-use Rattle.types.proofs.Values.{length-valueAt}
-use Rattle.request.specs.Table.{Kind, LastCommitted, Base, Write, AddDelta, Estimate, Remove, Fetch, Materialize, GroupBase, Exchange, GroupWrite, GroupEstimate, GroupRemove, GroupFetch, GroupSize, Finalize, Purpose, Edits, Reads, Materializes, Finalizes, IndexField, Row, row, at, table, rowOf}
+use Rattle.types.specs.Response.{kindIn}
+use Rattle.types.proofs.ValueLaws.{length-valueAt}
+use Rattle.request.specs.Table.{Kind, Estimate, Remove, Fetch, GroupBase, GroupWrite, GroupEstimate, GroupRemove, GroupSize, Finalize, Purpose, Edits, Reads, Finalizes, IndexField, alone, bySet, Row, row, at, table, noRow, rowOf}
 use Rattle.request.specs.Set.{tagsOf, membersOf}
-use Rattle.request.specs.Request.{rowAt, countOf, tagsAt, tags, members, shapeOk, exchangedOk, rawOk, tagOk, all, fieldsOk, lastIndex, indexIn, indexOk, refusalOf, requestAs, requestOf}
-use Rattle.request.proofs.Tags.{AtLeast, Below, Rising, tags-below, tags-rising}
-use Rattle.model.specs.Rows.{every}
+use Rattle.request.specs.Request.{rowAt, tagsAt, tagsBy, tags, valueIn, deltaIn, members, tailLength, shapeOk, exchangedOk, rawOk, tagOk, all, fieldsOk, lastIndex, indexIn, indexOk, refusalOf, requestAs, requestOf}
+use Rattle.request.proofs.CheckAnswers.{shape-whole, shape-length}
+use Rattle.request.proofs.SetTags.{AtLeast, Below, Rising, tags-below, tags-rising}
 use Rattle.model.specs.Fine.{isWord, fineValue, fineDelta, risingFrom, fineMember, fineMembers, fineRequest}
-use Rattle.model.proofs.Lists.{and-left, and-right, and-both, and-three, every-take, every-drop, every-getD}
-use Rattle.model.proofs.Walk.{word-tell, every-words, delta-tell}
+use Rattle.model.proofs.FineParts.{word-tell, every-words, delta-tell}
 
 -- ---- values and deltas in words
 
@@ -89,22 +91,15 @@ none-refused false b c e = absurd (omega arith)
 -- what the words of a request that is not refused keep to, by their row of the table
 pub record Checked (t : List ℕ) : Type 0 where
   pub long : rowAt t .fixed < length t
-  pub exact : length t ≡ rowAt t .fixed + rowAt t .each * length (tags t) + 1
+  pub exact : length t ≡ rowAt t .fixed + tailLength (rowAt t .tail) (rowAt t .fixed) t + 1
   pub fields : fieldsOk (rowAt t .kind) t ≡ true
   pub index : indexIn (rowAt t .index) t ≡ true
 
 pub refusalOf-checked : (t : List ℕ) → refusalOf t ≡ 0 → Checked t
-unfolding refusalOf shapeOk indexOk
+unfolding refusalOf indexOk
 refusalOf-checked t z =
     let n = none-refused (shapeOk t) (fieldsOk (rowAt t .kind) t) (indexOk t) z in
-    let counted = rowAt t .fixed + rowAt t .each * length (tags t) in
-    let shape = and-three (ltb (rowAt t .fixed) (length t)) (eqb (length t) (countOf t + 1)) (eqb (countOf t) counted) (n .0) in
-    record {
-      long = ltb-true (rowAt t .fixed) (length t) (shape .0);
-      exact = eqb-true (length t) (countOf t + 1) (shape .1) ∙ ap (λ (c : ℕ). c + 1) (eqb-true (countOf t) counted (shape .2));
-      fields = n .1;
-      index = n .2;
-    }
+    record { long = shape-whole t (n .0); exact = shape-length t (n .0); fields = n .1; index = n .2 }
 
 raw-ok : (v : List ℕ) → rawOk v ≡ true → valueOk v ≡ true
 unfolding rawOk
@@ -143,8 +138,14 @@ module _ (t : List ℕ) (w : every isWord t ≡ true) (c : Checked t) where
   index-by : (r : Row) → rowAt t ≡ r → indexIn (r .index) t ≡ true
   index-by r e = rw e at (c .index)
 
-  exact-by : (r : Row) → rowAt t ≡ r → length t ≡ r .fixed + r .each * length (tags t) + 1
+  exact-by : (r : Row) → rowAt t ≡ r → length t ≡ r .fixed + tailLength (r .tail) (r .fixed) t + 1
   exact-by r e = rw e at (c .exact)
+
+  value-by : (r : Row) → rowAt t ≡ r → r .value + valueWidth ≤ r .fixed + 1 → valueOk (valueIn t) ≡ true → fineValue (valueIn t) ≡ true
+  unfolding valueIn
+  value-by r e h ok =
+      let place : rowAt t .value ≡ r .value = rw e refl in
+      valueAt-fine t (rowAt t .value) w (omega (arith, long-by r e)) ok
 
   abbrev Good : Row → Type 0
   Good r = rowAt t ≡ r → fineRequest (requestAs (r .kind) t) ≡ true
@@ -153,142 +154,145 @@ module _ (t : List ℕ) (w : every isWord t ≡ true) (c : Checked t) where
   next-word : (i last : ℕ) → last ≤ 4294967294 → leb (getD t i 0) last ≡ true → isWord (suc (getD t i 0)) ≡ true
   next-word i last l h = word-tell (suc (getD t i 0)) (omega (arith, leb-true (getD t i 0) last h))
 
-  lastCommitted-good : Good (row LastCommitted 1 0 none)
-  unfolding row requestAs fineRequest
+  lastCommitted-good : Good (rowOf 0)
+  unfolding rowOf table row at requestAs fineRequest
   lastCommitted-good e = word-at 1
 
-  base-good : Good (row Base (1 + valueWidth) 0 none)
-  unfolding row requestAs fineRequest fieldsOk
+  base-good : Good (rowOf 1)
+  unfolding rowOf table row at requestAs fineRequest fieldsOk
   base-good e =
-      and-both (isWord (getD t 1 0)) (fineValue (valueAt 2 t)) (word-at 1)
-      (valueAt-fine t 2 w (omega (arith, long-by (row Base (1 + valueWidth) 0 none) e)) (fields-by (row Base (1 + valueWidth) 0 none) e))
+      let r = rowOf 1 in
+      and-both (isWord (getD t 1 0)) (fineValue (valueIn t)) (word-at 1) (value-by r e (omega arith) (fields-by r e))
 
-  write-good : Good (row Write (3 + valueWidth) 0 (at 2 Edits))
-  unfolding row at requestAs fineRequest fieldsOk exchangedOk indexIn lastIndex
+  write-good : Good (rowOf 2)
+  unfolding rowOf table row at requestAs fineRequest fieldsOk exchangedOk indexIn lastIndex
   write-good e =
-      let r = row Write (3 + valueWidth) 0 (at 2 Edits) in
-      let v = valueAt 4 t in
+      let r = rowOf 2 in
+      let v = valueIn t in
       let f : (valueOk v && isExchanged v) ≡ true = fields-by r e in
       rw (
         word-at 1,
         next-word 2 4294967294 (omega arith) (index-by r e),
         word-at 3,
-        valueAt-fine t 4 w (omega (arith, long-by r e)) (and-left (valueOk v) (isExchanged v) f),
+        value-by r e (omega arith) (and-left (valueOk v) (isExchanged v) f),
         and-right (valueOk v) (isExchanged v) f,
       )
 
-  addDelta-good : Good (row AddDelta 19 0 (at 2 Edits))
-  unfolding row at requestAs fineRequest fieldsOk indexIn lastIndex
+  addDelta-good : Good (rowOf 3)
+  unfolding rowOf table row at requestAs fineRequest fieldsOk deltaIn tailLength indexIn lastIndex
   addDelta-good e =
-      let r = row AddDelta 19 0 (at 2 Edits) in
+      let r = rowOf 3 in
+      let place : rowAt t .value ≡ 3 = rw e refl in
       rw (
         word-at 1,
         next-word 2 4294967294 (omega arith) (index-by r e),
-        deltaAt-fine (drop 3 t) (every-drop isWord 3 t w) (omega (arith, length-drop 3 t, exact-by r e, zero-mul (length (tags t)))) (fields-by r e),
+        deltaAt-fine (deltaIn t) (every-drop isWord (rowAt t .value) t w) (omega (arith, length-drop (rowAt t .value) t, exact-by r e)) (fields-by r e),
       )
 
   -- kinds whose fields are a key and an index
-  module _ (kind : Kind) (p : Purpose) (l : lastIndex p ≤ 4294967294) (e : rowAt t ≡ row kind 2 0 (at 2 p)) where
+  module _ (kind : Kind) (p : Purpose) (l : lastIndex p ≤ 4294967294) (e : rowAt t ≡ row kind 2 alone 0 (at 2 p)) where
     key-index : (isWord (getD t 1 0) && isWord (suc (getD t 2 0))) ≡ true
     unfolding row at indexIn
     key-index =
         and-both (isWord (getD t 1 0)) (isWord (suc (getD t 2 0))) (word-at 1)
-        (next-word 2 (lastIndex p) l (index-by (row kind 2 0 (at 2 p)) e))
+        (next-word 2 (lastIndex p) l (index-by (row kind 2 alone 0 (at 2 p)) e))
 
-  estimate-good : Good (row Estimate 2 0 (at 2 Edits))
-  unfolding row requestAs fineRequest lastIndex
+  estimate-good : Good (rowOf 4)
+  unfolding rowOf table row at requestAs fineRequest lastIndex
   estimate-good e = key-index Estimate Edits (omega arith) e
 
-  remove-good : Good (row Remove 2 0 (at 2 Edits))
-  unfolding row requestAs fineRequest lastIndex
+  remove-good : Good (rowOf 5)
+  unfolding rowOf table row at requestAs fineRequest lastIndex
   remove-good e = key-index Remove Edits (omega arith) e
 
-  fetch-good : Good (row Fetch 2 0 (at 2 Reads))
-  unfolding row requestAs fineRequest lastIndex
+  fetch-good : Good (rowOf 6)
+  unfolding rowOf table row at requestAs fineRequest lastIndex
   fetch-good e = key-index Fetch Reads (omega arith) e
 
-  groupEstimate-good : Good (row GroupEstimate 2 0 (at 2 Edits))
-  unfolding row requestAs fineRequest lastIndex
+  groupEstimate-good : Good (rowOf 11)
+  unfolding rowOf table row at requestAs fineRequest lastIndex
   groupEstimate-good e = key-index GroupEstimate Edits (omega arith) e
 
-  groupRemove-good : Good (row GroupRemove 2 0 (at 2 Edits))
-  unfolding row requestAs fineRequest lastIndex
+  groupRemove-good : Good (rowOf 12)
+  unfolding rowOf table row at requestAs fineRequest lastIndex
   groupRemove-good e = key-index GroupRemove Edits (omega arith) e
 
-  groupSize-good : Good (row GroupSize 2 0 (at 2 Reads))
-  unfolding row requestAs fineRequest lastIndex
+  groupSize-good : Good (rowOf 14)
+  unfolding rowOf table row at requestAs fineRequest lastIndex
   groupSize-good e = key-index GroupSize Reads (omega arith) e
 
-  finalize-good : Good (row Finalize 2 0 (at 2 Finalizes))
-  unfolding row requestAs fineRequest lastIndex
+  finalize-good : Good (rowOf 15)
+  unfolding rowOf table row at requestAs fineRequest lastIndex
   finalize-good e = key-index Finalize Finalizes (omega arith) e
 
-  materialize-good : Good (row Materialize 2 0 (at 2 Materializes))
-  unfolding row at requestAs fineRequest indexIn lastIndex
+  materialize-good : Good (rowOf 7)
+  unfolding rowOf table row at requestAs fineRequest indexIn lastIndex
   materialize-good e =
       and-both (isWord (getD t 1 0)) (isWord (suc (suc (getD t 2 0)))) (word-at 1)
-      (word-tell (suc (suc (getD t 2 0))) (omega (arith, leb-true (getD t 2 0) 4294967293 (index-by (row Materialize 2 0 (at 2 Materializes)) e))))
+      (word-tell (suc (suc (getD t 2 0))) (omega (arith, leb-true (getD t 2 0) 4294967293 (index-by (rowOf 7) e))))
 
-  groupFetch-good : Good (row GroupFetch 3 0 (at 3 Reads))
-  unfolding row at requestAs fineRequest fieldsOk tagOk indexIn lastIndex
+  groupFetch-good : Good (rowOf 13)
+  unfolding rowOf table row at requestAs fineRequest fieldsOk tagOk indexIn lastIndex
   groupFetch-good e =
-      let r = row GroupFetch 3 0 (at 3 Reads) in
+      let r = rowOf 13 in
       rw (word-at 1, fields-by r e, next-word 3 4294967294 (omega arith) (index-by r e))
 
-  exchange-good : Good (row Exchange (2 + valueWidth) 0 none)
-  unfolding row requestAs fineRequest fieldsOk tagOk exchangedOk
+  exchange-good : Good (rowOf 9)
+  unfolding rowOf table row at requestAs fineRequest fieldsOk tagOk exchangedOk
   exchange-good e =
-      let r = row Exchange (2 + valueWidth) 0 none in
-      let v = valueAt 3 t in
+      let r = rowOf 9 in
+      let v = valueIn t in
       let f : (leb (getD t 2 0) 63 && (valueOk v && isExchanged v) && not (isDeletion v)) ≡ true = fields-by r e in
       let g : (leb (getD t 2 0) 63 && (valueOk v && isExchanged v)) ≡ true = and-left (leb (getD t 2 0) 63 && (valueOk v && isExchanged v)) (not (isDeletion v)) f in
       let x : (valueOk v && isExchanged v) ≡ true = and-right (leb (getD t 2 0) 63) (valueOk v && isExchanged v) g in
       rw (
         word-at 1,
         and-left (leb (getD t 2 0) 63) (valueOk v && isExchanged v) g,
-        valueAt-fine t 3 w (omega (arith, long-by r e)) (and-left (valueOk v) (isExchanged v) x),
+        value-by r e (omega arith) (and-left (valueOk v) (isExchanged v) x),
         and-right (valueOk v) (isExchanged v) x,
       )
       (and-right (leb (getD t 2 0) 63 && (valueOk v && isExchanged v)) (not (isDeletion v)) f)
 
   -- the set is the last two of the fixed words, and the values are all that follows
-  module _ (kind : Kind) (before : ℕ) (index : Option IndexField) (e : rowAt t ≡ row kind (suc before) valueWidth index) where
+  module _ (kind : Kind) (before : ℕ) (index : Option IndexField) (e : rowAt t ≡ row kind (suc before) (bySet valueWidth) (suc (suc before)) index) where
     tags-are : tags t ≡ tagsOf (getD t before 0) (getD t (suc before) 0)
-    unfolding tags tagsAt row
+    unfolding tags tagsBy tagsAt row
     tags-are =
         let s : suc before - 1 ≡ before = omega arith in
         rw (e, s)
 
-    members-are : members t ≡ membersOf (tagsOf (getD t before 0) (getD t (suc before) 0)) (drop (suc before + 1) t)
+    members-are : members t ≡ membersOf (tagsOf (getD t before 0) (getD t (suc before) 0)) (drop (suc (suc before)) t)
     unfolding members row
     members-are = rw (tags-are, e)
 
-    values-length : valueWidth * length (tagsOf (getD t before 0) (getD t (suc before) 0)) ≤ length (drop (suc before + 1) t)
-    unfolding row
+    values-length : valueWidth * length (tagsOf (getD t before 0) (getD t (suc before) 0)) ≤ length (drop (suc (suc before)) t)
+    unfolding row tailLength tagsAt
     values-length =
-        rw (← tags-are) (omega (arith, length-drop (suc before + 1) t, exact-by (row kind (suc before) valueWidth index) e))
+        let s : suc before - 1 ≡ before = omega arith in
+        let words = rw s at (exact-by (row kind (suc before) (bySet valueWidth) (suc (suc before)) index) e) in
+        omega (arith, length-drop (suc (suc before)) t)
 
     members-fine : (place : ℕ) (rule : List ℕ → Bool) → ((v : List ℕ) → rule v ≡ true → valueOk v ≡ true) → ((v : List ℕ) → rule v ≡ true → cond (eqb place 0) true (isExchanged v) ≡ true) → all rule (members t) ≡ true → fineMembers place (members t) ≡ true
     members-fine place rule ok side h =
         rw members-are
-        (membersOf-fine place rule ok side (getD t before 0) (getD t (suc before) 0) (drop (suc before + 1) t) values-length (every-drop isWord (suc before + 1) t w)
+        (membersOf-fine place rule ok side (getD t before 0) (getD t (suc before) 0) (drop (suc (suc before)) t) values-length (every-drop isWord (suc (suc before)) t w)
         (rw members-are at h))
 
-  groupBase-good : Good (row GroupBase 3 valueWidth none)
-  unfolding row requestAs fineRequest fieldsOk
+  groupBase-good : Good (rowOf 8)
+  unfolding rowOf table row at requestAs fineRequest fieldsOk
   groupBase-good e =
       and-both (isWord (getD t 1 0)) (fineMembers 0 (members t)) (word-at 1)
-      (members-fine GroupBase 2 none e 0 rawOk raw-ok (λ v h. refl) (fields-by (row GroupBase 3 valueWidth none) e))
+      (members-fine GroupBase 2 none e 0 rawOk raw-ok (λ v h. refl) (fields-by (rowOf 8) e))
 
-  groupWrite-good : Good (row GroupWrite 5 valueWidth (at 2 Edits))
-  unfolding row at requestAs fineRequest fieldsOk indexIn lastIndex
+  groupWrite-good : Good (rowOf 10)
+  unfolding rowOf table row at requestAs fineRequest fieldsOk indexIn lastIndex
   groupWrite-good e =
-      let r = row GroupWrite 5 valueWidth (at 2 Edits) in
+      let r = rowOf 10 in
       rw (word-at 1, next-word 2 4294967294 (omega arith) (index-by r e), word-at 3)
       (members-fine GroupWrite 4 (at 2 Edits) e (suc (getD t 2 0)) exchangedOk exchanged-ok (λ v h. rw (eqb·suc-zero (getD t 2 0)) (exchanged-side v h)) (fields-by r e))
 
   rows-good : Each Good table
-  unfolding Each table
+  unfolding Each rowOf table
   rows-good = (
     lastCommitted-good,
     (
@@ -316,8 +320,8 @@ module _ (t : List ℕ) (w : every isWord t ≡ true) (c : Checked t) where
   )
 
   checked-fine : fineRequest (requestOf t) ≡ true
-  unfolding requestOf rowAt rowOf
-  checked-fine = each-getD Good table (row LastCommitted 1 0 none) rows-good lastCommitted-good (getD t 0 0 / 2 ^ 28) refl
+  unfolding requestOf rowAt rowOf noRow row requestAs fineRequest
+  checked-fine = each-getD Good table noRow rows-good (λ e. word-at 1) (kindIn (getD t 0 0)) refl
 
 -- a request that 2, 3 and 4 do not refuse has fine fields
 pub requestOf-fine : (t : List ℕ) → every isWord t ≡ true → refusalOf t ≡ 0 → fineRequest (requestOf t) ≡ true

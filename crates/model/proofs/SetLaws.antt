@@ -12,15 +12,17 @@ use lib.Dec.{leb, eqb, lit<}
 use lib.ListN.{length, getD, drop}
 use lib.Seq.{take-at, drop-at}
 use borrow.Author.Tests.{leb-true, eqb-true}
+use Rattle.lists.specs.Lists.{every}
+use Rattle.lists.proofs.Bools.{and-left, and-right}
+use Rattle.lists.proofs.Lists.{every-keep, every-kept}
 use Rattle.number.specs.Words.{digits}
 use Rattle.types.specs.Value.{valueWidth, valueOk, isDeletion}
 use Rattle.types.specs.Response.{response}
 use Rattle.request.specs.Set.{tagsFrom, tagsOf, Member, membersOf}
-use Rattle.request.proofs.Tags.{AtLeast, Below, Rising}
-use Rattle.model.specs.Rows.{Row, every, isAbove, rising, ofKey}
+use Rattle.request.proofs.SetTags.{AtLeast, Below, Rising}
+use Rattle.model.specs.Rows.{Row, isAbove, rising, ofKey}
 use Rattle.model.specs.Fine.{isWord, fineValue, fineCommitted, fineGroup}
 use Rattle.model.specs.Group.{Committed, setOf, valuesOf, committedAnswer}
-use Rattle.model.proofs.Lists.{and-left, and-right, every-keep, every-kept}
 use Rattle.model.proofs.Rows.{Over, above-told, rising-keep}
 
 -- Tags as bits, the lowest being t.

@@ -1,45 +1,37 @@
 -- What readers of fine updates find is fine: values, indexes and sizes in range.
 -- Assumes nothing.
 use mathlib.Core.Path.{_≡_, refl, ap}
-use mathlib.Core.Bool.{Bool, true, false, cond, not, _&&_}
+use mathlib.Core.Bool.{Bool, true, false, cond}
 use mathlib.Core.List.{List, [], _∷_}
 use mathlib.Core.Option.{Option, none, some}
-use Prim.Native.Nat.{ℕ, zero, suc, _+_, _*_, _≤_, _<_}
+use Prim.Native.Nat.{ℕ, zero, suc, _+_, _*_, _≤_}
 use native.Mathlib.Omega.{arith}
 use lib.Dec.{leb, eqb}
 use lib.ListN.{length}
 use borrow.Author.Tests.{leb-true, le-leb}
+use Rattle.lists.specs.Lists.{every}
+use Rattle.lists.proofs.Bools.{and-both, and-left, and-right, and-three}
+use Rattle.types.specs.Response.{mostTags}
 use Rattle.types.specs.Value.{isDeletion, byteLength, bytesLen}
 use Rattle.request.specs.Set.{Member}
-use Rattle.model.specs.Rows.{Row, every}
-use Rattle.model.specs.Group.{Update, firstTagged, valueOf, Latest, nearest, latest, Size, counted, waits, withBytes, withLatest, sizeOver, count, allTags}
+use Rattle.model.specs.Rows.{Row}
+use Rattle.model.specs.Group.{Update, firstTagged, memberValue, Latest, nearest, latest, Size, counted, waits, withBytes, withLatest, sizeOver, count, allTags}
 use Rattle.model.specs.Fine.{isWord, fineValue, risingFrom, fineMember, fineMembers, fineUpdate, fineLatest, fineSize}
-use Rattle.model.proofs.Lists.{and-left, and-right, and-both, and-three}
-use Rattle.model.proofs.Walk.{value-bytes}
-use Rattle.model.proofs.FineGroup.{member-value, update-place, update-recorded, update-incarnation, update-side, update-members}
-
--- an estimate does not stand at the base, so its index is one less than its place
-pub estimate-update-place : (r : Row Update) → fineUpdate r ≡ true → r .held .estimate ≡ true → 0 < r .place
-estimate-update-place r f e = go (r .place) (rw e at (update-side (r .place) (r .held) (update-recorded r f)))
-  where
-    go : (p : ℕ) → cond (eqb p 0) (eqb (r .held .incarnation) 0 && not true) true ≡ true → 0 < p
-    go zero h =
-        let z : _≡_ {A = Bool} false true = and-right (eqb (r .held .incarnation) 0) false h in
-        absurd (let y : _≡_ {A = ℕ} 0 1 = cc in omega arith)
-    go (suc p) h = omega arith
+use Rattle.model.proofs.FineParts.{value-bytes}
+use Rattle.model.proofs.FineUpdates.{member-value, update-place, update-recorded, update-incarnation, update-members}
 
 -- the value of a tag among fine members
 unfoldable pub fineFound : Option (List ℕ) → Bool
 fineFound none = true
 fineFound (some v) = fineValue v
 
-pub valueOf-fine : (place tag : ℕ) (ms : List Member) → every (fineMember place) ms ≡ true → fineFound (valueOf tag ms) ≡ true
-unfolding valueOf firstTagged fineFound every
+pub valueOf-fine : (place tag : ℕ) (ms : List Member) → every (fineMember place) ms ≡ true → fineFound (memberValue tag ms) ≡ true
+unfolding memberValue firstTagged fineFound every
 valueOf-fine place tag [] h = refl
 valueOf-fine place tag (m ∷ ms) h =
     go (eqb (m .tag) tag) (valueOf-fine place tag ms (and-right (fineMember place m) (every (fineMember place) ms) h))
   where
-    go : (b : Bool) → fineFound (valueOf tag ms) ≡ true → fineFound (firstTagged b (m .value) (valueOf tag ms)) ≡ true
+    go : (b : Bool) → fineFound (memberValue tag ms) ≡ true → fineFound (firstTagged b (m .value) (memberValue tag ms)) ≡ true
     go true ih = member-value place m (and-left (fineMember place m) (every (fineMember place) ms) h)
     go false ih = ih
 
@@ -54,7 +46,7 @@ unfolding latest every fineLatest fineMembers
 latest-fine tag [] h = refl
 latest-fine tag (r ∷ seen) h =
     let f : fineUpdate r ≡ true = and-left (fineUpdate r) (every fineUpdate seen) h in
-    nearest-fine r (valueOf tag (r .held .members)) (latest tag seen) f
+    nearest-fine r (memberValue tag (r .held .members)) (latest tag seen) f
     (valueOf-fine (r .place) tag (r .held .members)
     (and-right (risingFrom 0 (r .held .members)) (every (fineMember (r .place)) (r .held .members)) (update-members (r .place) (r .held) (update-recorded r f))))
     (latest-fine tag seen (and-right (fineUpdate r) (every fineUpdate seen) h))
@@ -109,6 +101,6 @@ unfolding count
 length-count zero first = refl
 length-count (suc n) first = ap suc (length-count n (suc first))
 
-pub sizeOver-allTags-fine : (seen : List (Row Update)) → every fineUpdate seen ≡ true → fineSize 64 (sizeOver allTags seen) ≡ true
+pub sizeOver-allTags-fine : (seen : List (Row Update)) → every fineUpdate seen ≡ true → fineSize mostTags (sizeOver allTags seen) ≡ true
 unfolding allTags
-sizeOver-allTags-fine seen h = rw (length-count 64 0) at (sizeOver-fine (count 64 0) seen h)
+sizeOver-allTags-fine seen h = rw (length-count mostTags 0) at (sizeOver-fine (count mostTags 0) seen h)

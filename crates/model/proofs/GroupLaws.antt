@@ -10,17 +10,20 @@ use native.Mathlib.Omega.{arith}
 use native.Mathlib.Decide.{ℕ-discrete}
 use lib.Dec.{eqb, eqb·suc-zero}
 use borrow.Author.Tests.{eqb-true, eqb-false, eq-eqb, ne-eqb}
+use Rattle.lists.specs.Lists.{every}
+use Rattle.lists.proofs.Bools.{and-left, and-right}
+use Rattle.types.specs.Refusal.{commitRule}
 use Rattle.types.specs.Value.{writeOpKind, isCreation, isDeletion, bytesLen}
 use Rattle.request.specs.Set.{Member}
 use Rattle.request.specs.Request.{groupFetch, groupSize, finalize}
-use Rattle.model.specs.Rows.{Row, every, rising, find, put, erase, downFrom, ofKey, edited}
+use Rattle.model.specs.Rows.{Row, rising, find, put, erase, downFrom, edited}
 use Rattle.model.specs.Data.{versionedAnswer}
-use Rattle.model.specs.Group.{Update, Committed, commits, firstTagged, valueOf, isSome, commitOver, commitNew, commitOne, commitRest, commit, committedAnswer, finalizedTo, finalizeGroup, Latest, latest, hasBase, dependencyAnswer, latestAnswer, fetchTaggedData, Size, counted, waits, withBytes, withLatest, sizeOver, allTags, sizeAnswer, getGroupSize}
+use Rattle.model.specs.Group.{Update, Committed, commits, firstTagged, memberValue, isSome, commitOver, commitNew, commitOne, commitRest, commit, committedAnswer, finalizedTo, finalizeGroup, Latest, latest, hasBase, dependencyAnswer, latestAnswer, fetchTaggedData, Size, counted, waits, withBytes, withLatest, sizeOver, allTags, sizeAnswer, getGroupSize}
+use Rattle.model.specs.Sight.{seenRows, byKey}
 use Rattle.model.specs.Model.{Model, workOf, ruled, withCommits, perform, leftBy, Outcome, outcomeOf, refused, answered}
 use Rattle.model.specs.Tickets.{outcome, left, uninitialized, tagNotFound, versioned, atBase, dependency, size}
-use Rattle.model.proofs.Lists.{and-left, and-right}
-use Rattle.model.proofs.LawsOfKeys.{commit-ofKey-other}
-use Rattle.model.proofs.Lookups.{find-put-same, find-put-other, find-erase-same, find-erase-other, rowsAt, down, downFrom-find}
+use Rattle.model.proofs.SightCommits.{commit-after}
+use Rattle.model.proofs.RowLookups.{find-put-same, find-put-other, find-erase-same, find-erase-other, rowsAt, down, downFrom-find}
 
 -- ---- size
 
@@ -105,7 +108,7 @@ module _ (m : Model) (key t : ℕ) (g : rising (m .updates) ≡ true) where
 -- Members of one update have distinct tags.
 unfoldable pub distinct : List Member → Bool
 distinct [] = true
-distinct (m ∷ ms) = not (isSome (valueOf (m .tag) ms)) && distinct ms
+distinct (m ∷ ms) = not (isSome (memberValue (m .tag) ms)) && distinct ms
 
 -- What is committed of a tag after an update: its value, or nothing for a deletion; where the update has no such tag, what was committed before.
 unfoldable pub committedBy : Option (List ℕ) → Option (List ℕ) → Option (List ℕ)
@@ -155,12 +158,12 @@ module _ (key : ℕ) (m : Member) (g : Committed) where
       go true = find-erase-other key (m .tag) key tag (λ a b. apart b) g
       go false = find-put-other key (m .tag) key tag (λ a b. apart b) (m .value) g
 
-valueOf-head : (m : Member) (ms : List Member) → valueOf (m .tag) (m ∷ ms) ≡ some (m .value)
-unfolding valueOf firstTagged
+valueOf-head : (m : Member) (ms : List Member) → memberValue (m .tag) (m ∷ ms) ≡ some (m .value)
+unfolding memberValue firstTagged
 valueOf-head m ms = rw (eq-eqb (m .tag) (m .tag) refl)
 
-valueOf-tail : (tag : ℕ) (m : Member) (ms : List Member) → (tag ≡ m .tag → ⊥) → valueOf tag (m ∷ ms) ≡ valueOf tag ms
-unfolding valueOf firstTagged
+valueOf-tail : (tag : ℕ) (m : Member) (ms : List Member) → (tag ≡ m .tag → ⊥) → memberValue tag (m ∷ ms) ≡ memberValue tag ms
+unfolding memberValue firstTagged
 valueOf-tail tag m ms apart = rw (ne-eqb (m .tag) tag (λ e. apart (sym e)))
 
 not-some : {A : Type 0} (o : Option A) → not (isSome o) ≡ true → o ≡ none
@@ -174,15 +177,15 @@ unfolding firstTagged
 not-first true v rest e = absurd (let z : _≡_ {A = ℕ} 0 1 = cc in omega arith)
 not-first false v rest e = (refl, e)
 
-not-tagged : (tag : ℕ) (m : Member) (ms : List Member) → valueOf tag (m ∷ ms) ≡ none → (m .tag ≡ tag → ⊥) × (valueOf tag ms ≡ none)
-unfolding valueOf
+not-tagged : (tag : ℕ) (m : Member) (ms : List Member) → memberValue tag (m ∷ ms) ≡ none → (m .tag ≡ tag → ⊥) × (memberValue tag ms ≡ none)
+unfolding memberValue
 not-tagged tag m ms e =
-    let w = not-first (eqb (m .tag) tag) (m .value) (valueOf tag ms) e in
+    let w = not-first (eqb (m .tag) tag) (m .value) (memberValue tag ms) e in
     (eqb-false (m .tag) tag (w .0), w .1)
 
 module _ (key : ℕ) where
   -- one tag's rule changes nothing for members that do not have it
-  allowed-on : (m : Member) (g : Committed) (ms : List Member) → valueOf (m .tag) ms ≡ none → every (allowed key (after-one key m g)) ms ≡ every (allowed key g) ms
+  allowed-on : (m : Member) (g : Committed) (ms : List Member) → memberValue (m .tag) ms ≡ none → every (allowed key (after-one key m g)) ms ≡ every (allowed key g) ms
   unfolding every allowed
   allowed-on m g [] e = refl
   allowed-on m g (x ∷ xs) e =
@@ -193,31 +196,31 @@ module _ (key : ℕ) where
   pub commit-allowed : (ms : List Member) (g : Committed) → distinct ms ≡ true → isSome (commit key ms g) ≡ every (allowed key g) ms
   unfolding commit commitRest every isSome distinct
   commit-allowed [] g d = refl
-  commit-allowed (m ∷ ms) g d = rw (commitOne-is key m g) (go (allowed key g m) (commit-allowed ms (after-one key m g) (and-right (not (isSome (valueOf (m .tag) ms))) (distinct ms) d)))
+  commit-allowed (m ∷ ms) g d = rw (commitOne-is key m g) (go (allowed key g m) (commit-allowed ms (after-one key m g) (and-right (not (isSome (memberValue (m .tag) ms))) (distinct ms) d)))
     where
       go : (b : Bool) → isSome (commit key ms (after-one key m g)) ≡ every (allowed key (after-one key m g)) ms →
           isSome (commitRest (cond b (some (after-one key m g)) none) (λ h. commit key ms h)) ≡ (b && every (allowed key g) ms)
-      go true ih = ih ∙ allowed-on m g ms (not-some (valueOf (m .tag) ms) (and-left (not (isSome (valueOf (m .tag) ms))) (distinct ms) d))
+      go true ih = ih ∙ allowed-on m g ms (not-some (memberValue (m .tag) ms) (and-left (not (isSome (memberValue (m .tag) ms))) (distinct ms) d))
       go false ih = refl
 
   -- Each of its tags then has the update's value, or nothing for a deletion; every other tag has what it had.
-  pub commit-find : (ms : List Member) (g h : Committed) → distinct ms ≡ true → commit key ms g ≡ some h → (tag : ℕ) → find key tag h ≡ committedBy (valueOf tag ms) (find key tag g)
-  unfolding commit commitRest distinct committedBy valueOf
+  pub commit-find : (ms : List Member) (g h : Committed) → distinct ms ≡ true → commit key ms g ≡ some h → (tag : ℕ) → find key tag h ≡ committedBy (memberValue tag ms) (find key tag g)
+  unfolding commit commitRest distinct committedBy memberValue
   commit-find [] g h d e tag = let z : g ≡ h = cc in rw (← z)
   commit-find (m ∷ ms) g h d e tag =
       go (allowed key g m) (rw (commitOne-is key m g) at e)
-      (λ f. commit-find ms (after-one key m g) h (and-right (not (isSome (valueOf (m .tag) ms))) (distinct ms) d) f tag)
+      (λ f. commit-find ms (after-one key m g) h (and-right (not (isSome (memberValue (m .tag) ms))) (distinct ms) d) f tag)
     where
-      by : Dec (tag ≡ m .tag) → find key tag h ≡ committedBy (valueOf tag ms) (find key tag (after-one key m g)) → find key tag h ≡ committedBy (valueOf tag (m ∷ ms)) (find key tag g)
+      by : Dec (tag ≡ m .tag) → find key tag h ≡ committedBy (memberValue tag ms) (find key tag (after-one key m g)) → find key tag h ≡ committedBy (memberValue tag (m ∷ ms)) (find key tag g)
       by (yes p) ih =
           ih
-          ∙ rw (p, valueOf-head m ms, not-some (valueOf (m .tag) ms) (and-left (not (isSome (valueOf (m .tag) ms))) (distinct ms) d))
+          ∙ rw (p, valueOf-head m ms, not-some (memberValue (m .tag) ms) (and-left (not (isSome (memberValue (m .tag) ms))) (distinct ms) d))
           (find-one-same key m g)
       by (no p) ih = ih ∙ rw (find-one-other key m g tag p, valueOf-tail tag m ms p)
 
       go : (b : Bool) → commitRest (cond b (some (after-one key m g)) none) (λ i. commit key ms i) ≡ some h →
-          (commit key ms (after-one key m g) ≡ some h → find key tag h ≡ committedBy (valueOf tag ms) (find key tag (after-one key m g))) →
-          find key tag h ≡ committedBy (valueOf tag (m ∷ ms)) (find key tag g)
+          (commit key ms (after-one key m g) ≡ some h → find key tag h ≡ committedBy (memberValue tag ms) (find key tag (after-one key m g))) →
+          find key tag h ≡ committedBy (memberValue tag (m ∷ ms)) (find key tag g)
       go true e ih = by (ℕ-discrete tag (m .tag)) (ih e)
       go false e ih = absurd (let z : _≡_ {A = ℕ} 0 1 = cc in omega arith)
 
@@ -226,16 +229,16 @@ pub record Finalized (key : ℕ) (u : Update) (before after : Model) : Type 0 wh
   pub entries : after .entries ≡ before .entries
   pub updates : after .updates ≡ before .updates
   -- each tag of the update its value, or nothing for a deletion; each other tag as before
-  pub own : (tag : ℕ) → find key tag (after .committed) ≡ committedBy (valueOf tag (u .members)) (find key tag (before .committed))
+  pub own : (tag : ℕ) → find key tag (after .committed) ≡ committedBy (memberValue tag (u .members)) (find key tag (before .committed))
   -- every other key as before
-  pub others : (l : ℕ) → (l ≡ key → ⊥) → ofKey l (after .committed) ≡ ofKey l (before .committed)
+  pub others : (p : ℕ → Bool) → p key ≡ false → seenRows (byKey p) (after .committed) ≡ seenRows (byKey p) (before .committed)
 
 module _ (m : Model) (key index : ℕ) (u : Update) (here : find key (suc index) (m .updates) ≡ some u) (d : distinct (u .members) ≡ true) where
   -- A finalise changes the committed group by exactly the update.
-  pub finalize-allowed : every (allowed key (m .committed)) (u .members) ≡ true →
+  pub finalize-allowed : rising (m .committed) ≡ true → every (allowed key (m .committed)) (u .members) ≡ true →
       Finalized key u m (left (finalize key index) m) × (outcome (finalize key index) m ≡ answered (committedAnswer key (left (finalize key index) m .committed)))
   unfolding left outcome workOf perform ruled leftBy outcomeOf finalizeGroup finalizedTo withCommits commits edited isSome
-  finalize-allowed a = rw here (go (commit key (u .members) (m .committed)) refl)
+  finalize-allowed r a = rw here (go (commit key (u .members) (m .committed)) refl)
     where
       group : Option Committed → Model
       group o = leftBy m (ruled (withCommits key (suc index) m) (finalizedTo key o))
@@ -243,13 +246,13 @@ module _ (m : Model) (key index : ℕ) (u : Update) (here : find key (suc index)
       go : (o : Option Committed) → commit key (u .members) (m .committed) ≡ o →
           Finalized key u m (group o) × (outcomeOf (ruled (withCommits key (suc index) m) (finalizedTo key o)) ≡ answered (committedAnswer key (group o .committed)))
       go none e = absurd (let z : false ≡ true = ap isSome (sym e) ∙ commit-allowed key (u .members) (m .committed) d ∙ a in let y : _≡_ {A = ℕ} 0 1 = cc in omega arith)
-      go (some h) e = (record { entries = refl; updates = refl; own = commit-find key (u .members) (m .committed) h d e; others = λ l apart. commit-ofKey-other key l apart (u .members) (m .committed) h e }, refl)
+      go (some h) e = (record { entries = refl; updates = refl; own = commit-find key (u .members) (m .committed) h d e; others = commit-after key (u .members) (m .committed) h r e .others }, refl)
 
   -- Where one tag fails, the finalise is refused by 11, and nothing is committed.
-  pub finalize-refused : every (allowed key (m .committed)) (u .members) ≡ false → outcome (finalize key index) m ≡ refused 11
+  pub finalize-refused : every (allowed key (m .committed)) (u .members) ≡ false → outcome (finalize key index) m ≡ refused commitRule
   unfolding outcome workOf perform ruled outcomeOf finalizeGroup finalizedTo isSome
   finalize-refused a = rw here (go (commit key (u .members) (m .committed)) refl)
     where
-      go : (o : Option Committed) → commit key (u .members) (m .committed) ≡ o → outcomeOf (ruled (withCommits key (suc index) m) (finalizedTo key o)) ≡ refused 11
+      go : (o : Option Committed) → commit key (u .members) (m .committed) ≡ o → outcomeOf (ruled (withCommits key (suc index) m) (finalizedTo key o)) ≡ refused commitRule
       go none e = refl
       go (some h) e = absurd (let z : true ≡ false = ap isSome (sym e) ∙ commit-allowed key (u .members) (m .committed) d ∙ a in let y : _≡_ {A = ℕ} 0 1 = cc in omega arith)

@@ -11,8 +11,10 @@ use lib.Dec.{leb, ltb, eqb, leb·suc-suc}
 use lib.ListN.{length, getD, set, take, drop, length-append}
 use lib.Seq.{take-suc, take-at, drop-at, getD-at, set-at, drop-drop}
 use borrow.Author.Tests.{leb-true, eqb-true, le-ltb, le-leb, eq-eqb}
-use Rattle.model.specs.Rows.{Row, keep, every, isBelow, isAt, isAbove, rising, heldFirst, find, put, erase, isUpTo, downFrom, rank, rowAt, front, downAt}
-use Rattle.model.proofs.Lists.{and-left, and-right, and-both, keep-append, keep-all, keep-none, every-imp, every-kept, every-reverse, keep-both}
+use Rattle.lists.specs.Lists.{every, front, keep}
+use Rattle.lists.proofs.Bools.{and-both, and-left, and-right}
+use Rattle.lists.proofs.Lists.{every-imp, every-kept, every-reverse, keep-all, keep-append, keep-both, keep-none}
+use Rattle.model.specs.Rows.{Row, isBelow, isAt, isAbove, rising, heldFirst, find, put, erase, isUpTo, downFrom, rank, rowAt, downAt}
 use Rattle.model.proofs.Rows.{Side, lower, here, upper, side, split, at-key, at-place, above-not-at, below-not-at, at-above, above-told, below-told, Over, rising-keep}
 
 module _ {A : Type 0} (k p : ℕ) where
