@@ -1,19 +1,13 @@
 -- What an operation on the data store promises: the number that it answers and the words that it leaves are those of its rule (specs of `model`)
 -- for the entry at its key and shifted index.
 use mathlib.Core.Path.{_≡_}
-use mathlib.Core.Bool.{cond}
 use mathlib.Core.List.{List}
 use mathlib.Core.Option.{Option}
 use Prim.Native.Nat.{ℕ}
-use Rattle.model.specs.Rows.{Row, find, Edit, edited}
-use Rattle.model.specs.Data.{Entry, Ruling, refuse, accept}
-use Rattle.versioned_data.specs.Layout.{entriesIn, fitsIn, resultOf, wordsAfter}
+use Rattle.model.specs.Rows.{find, Edit}
+use Rattle.model.specs.Data.{Entry, Ruling}
+use Rattle.versioned_data.specs.Layout.{entriesIn, resultOf, wordsAfter}
 
 pub record Edited (s : List ℕ) (key place : ℕ) (rule : Option Entry → Ruling (Edit Entry)) (r : ℕ) (after : List ℕ) : Type 0 where
   pub result : r ≡ resultOf s key place (rule (find key place (entriesIn s)))
   pub words : after ≡ wordsAfter s key place (rule (find key place (entriesIn s)))
-
--- The entries that a ruling leaves.
-unfoldable pub entriesAfter : List ℕ → ℕ → ℕ → Ruling (Edit Entry) → List (Row Entry)
-entriesAfter s key place (refuse n) = entriesIn s
-entriesAfter s key place (accept answer e) = cond (fitsIn s (edited key place e (entriesIn s))) (edited key place e (entriesIn s)) (entriesIn s)

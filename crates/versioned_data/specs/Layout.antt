@@ -13,20 +13,35 @@ use Prim.Native.Nat.{ℕ, zero, suc, _+_}
 use lib.Dec.{leb, eqb}
 use lib.ListN.{length, getD, take, drop}
 use Rattle.number.specs.Words.{digits, valueOfWords}
-use Rattle.delta.specs.Delta.{deltaAt, deltaOk, deltaWords}
-use Rattle.types.specs.Value.{valueAt, valueOk, isExchanged}
+use Rattle.delta.specs.Delta.{deltaWidth, deltaAt, deltaOk, deltaWords}
+use Rattle.types.specs.Flag.{flagOf}
+use Rattle.types.specs.Units.{lackOf}
+use Rattle.types.specs.Value.{valueWidth, valueAt, valueOk, isExchanged}
 use Rattle.store.specs.Slots.{Slot, slotsIn, encode, held, allZero, padded, sameWords}
 use Rattle.model.specs.Rows.{Row, Edit, edited}
 use Rattle.model.specs.Data.{Cell, write, delta, Entry, Ruling, refuse, accept}
 use Rattle.model.specs.Fine.{fineEntry, fineEntries}
 
+-- Where a write's value and a delta's words begin, and where they end: after a delta its shortcut begins.
+abbrev pub valueStart : ℕ
+valueStart = 7
+
+abbrev pub valueEnd : ℕ
+valueEnd = valueStart + valueWidth
+
+abbrev pub deltaStart : ℕ
+deltaStart = 6
+
+abbrev pub deltaEnd : ℕ
+deltaEnd = deltaStart + deltaWidth
+
+abbrev pub shortcutEnd : ℕ
+shortcutEnd = deltaEnd + 4
+
 unfoldable pub formOf : Cell → ℕ
 formOf (write incarnation v) = 0
 formOf (delta d none) = 1
 formOf (delta d (some n)) = 2
-
-unfoldable pub flagOf : Bool → ℕ
-flagOf estimate = cond estimate 1 0
 
 unfoldable pub bodyOf : Cell → List ℕ
 bodyOf (write incarnation v) = incarnation ∷ v
@@ -40,9 +55,9 @@ slotOf r =
 
 -- The entry of a slot.
 unfoldable pub cellOf : ℕ → Slot → Cell
-cellOf zero u = write (getD u 6 0) (valueAt 7 u)
-cellOf (suc zero) u = delta (deltaAt (take 17 (drop 6 u))) none
-cellOf (suc (suc n)) u = delta (deltaAt (take 17 (drop 6 u))) (some (valueOfWords (take 4 (drop 23 u))))
+cellOf zero u = write (getD u 6 0) (valueAt valueStart u)
+cellOf (suc zero) u = delta (deltaAt (take deltaWidth (drop deltaStart u))) none
+cellOf (suc (suc n)) u = delta (deltaAt (take deltaWidth (drop deltaStart u))) (some (valueOfWords (take 4 (drop deltaEnd u))))
 
 unfoldable pub entryOf : Slot → Row Entry
 entryOf u =
@@ -66,23 +81,26 @@ slotOk u = fineEntry (entryOf u) && sameWords (slotOf (entryOf u)) u
 -- Rule 5 of a slot word by word, as a scan tests it.
 unfoldable pub bodyTest : ℕ → Slot → Bool
 bodyTest zero u =
-    valueOk (valueAt 7 u) && cond (eqb (getD u 2 0) 0) (eqb (getD u 6 0) 0 && eqb (getD u 5 0) 0) (isExchanged (valueAt 7 u))
-    && allZero (drop 14 u)
-bodyTest (suc zero) u = not (eqb (getD u 2 0) 0) && deltaOk (take 17 (drop 6 u)) && allZero (drop 23 u)
-bodyTest (suc (suc n)) u = not (eqb (getD u 2 0) 0) && deltaOk (take 17 (drop 6 u)) && allZero (drop 27 u)
+    valueOk (valueAt valueStart u) && cond (eqb (getD u 2 0) 0) (eqb (getD u 6 0) 0 && eqb (getD u 5 0) 0) (isExchanged (valueAt valueStart u))
+    && allZero (drop valueEnd u)
+bodyTest (suc zero) u = not (eqb (getD u 2 0) 0) && deltaOk (take deltaWidth (drop deltaStart u)) && allZero (drop deltaEnd u)
+bodyTest (suc (suc n)) u = not (eqb (getD u 2 0) 0) && deltaOk (take deltaWidth (drop deltaStart u)) && allZero (drop shortcutEnd u)
 
 unfoldable pub slotTest : Slot → Bool
 slotTest u =
     eqb (getD u 0 0) 1 && eqb (getD u 3 0) 0 && leb (getD u 4 0) 2 && leb (getD u 5 0) 1 && bodyTest (getD u 4 0) u
 
--- What an edit comes to in a store of so many words: 14, "more units after the ticket than the store has".
+-- "more units after the ticket than the store has": the refusal of rows that a store like `s` has no slots for, 0 of those that it has.
+unfoldable pub lackIn : List ℕ → List (Row Entry) → ℕ
+lackIn s rows = lackOf (length rows) (slotsIn (length s))
+
 unfoldable pub fitsIn : List ℕ → List (Row Entry) → Bool
-fitsIn s rows = leb (length rows) (slotsIn (length s))
+fitsIn s rows = eqb (lackIn s rows) 0
 
 -- The number that an operation at a key and place answers, 0 where it is accepted, and the words that it leaves.
 unfoldable pub resultOf : List ℕ → ℕ → ℕ → Ruling (Edit Entry) → ℕ
 resultOf s key place (refuse n) = n
-resultOf s key place (accept answer e) = cond (fitsIn s (edited key place e (entriesIn s))) 0 14
+resultOf s key place (accept answer e) = lackIn s (edited key place e (entriesIn s))
 
 unfoldable pub wordsAfter : List ℕ → ℕ → ℕ → Ruling (Edit Entry) → List ℕ
 wordsAfter s key place (refuse n) = s

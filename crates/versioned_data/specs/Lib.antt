@@ -5,4 +5,3 @@ pub mod Found
 pub mod Edited
 pub mod Base
 pub mod Materialize
-pub mod Histories

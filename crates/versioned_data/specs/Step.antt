@@ -7,7 +7,10 @@ use Rattle.model.specs.Rows.{Row}
 use Rattle.model.specs.Data.{Entry}
 use Rattle.versioned_data.specs.Layout.{formOf}
 
--- 3 where there is none, or an estimate.
+-- The number of no form: there is no entry, or it is an estimate.
+abbrev pub noForm : ℕ
+noForm = 3
+
 unfoldable pub formMet : List (Row Entry) → ℕ
-formMet [] = 3
-formMet (r ∷ rs) = cond (r .held .estimate) 3 (formOf (r .held .cell))
+formMet [] = noForm
+formMet (r ∷ rs) = cond (r .held .estimate) noForm (formOf (r .held .cell))

@@ -7,7 +7,7 @@ use types::output::MVDataOutput;
 ghost use mathlib.Core.Path.{_≡_};
 ghost use mathlib.Core.Bool.{true};
 ghost use Prim.Native.Nat.{_-_, _<_};
-ghost use Rattle.types.specs.Index.{wordOf};
+ghost use Rattle.types.specs.Index.{indexBound, wordOf};
 ghost use Rattle.model.specs.Rows.{downFrom};
 ghost use Rattle.model.specs.Data.{readOf};
 ghost use Rattle.versioned_data.specs.Layout.{entriesIn, dataValid};
@@ -25,7 +25,7 @@ pub fn read_at(s: &[u32], key: u32, bound: ShiftedTxnIndex) -> MVDataOutput
 
 pub fn fetch_data(s: &[u32], key: u32, txn_idx: TxnIndex) -> MVDataOutput
     requires store { ⌜ dataValid (now s) ≡ true ⌝ }
-    requires served { ⌜ «txn_idx» < 4294967295 ⌝ }
+    requires served { ⌜ «txn_idx» < indexBound ⌝ }
     ensures read { λ r. ⌜ r ≡ outputOf (readOf (downFrom key «txn_idx» (entriesIn (now (s .entry))))) ⌝ }
 {
     read_at(s, key, ShiftedTxnIndex::new(txn_idx))

@@ -5,5 +5,6 @@ pub mod fetch;
 pub mod find;
 mod layout;
 pub mod materialize;
+mod put;
 pub mod scan;
 pub mod walk;

@@ -11,12 +11,13 @@ use store::slot::word;
 use types::index::ShiftedTxnIndex;
 use types::index::TxnIndex;
 use types::output::MVDataOutput;
+use types::refusal;
 ghost use mathlib.Core.Path.{_≡_};
 ghost use mathlib.Core.Bool.{true};
 ghost use Prim.Native.Nat.{suc, _<_};
 ghost use lib.ListN.{length};
 ghost use Rattle.number.specs.Number.{valueOf};
-ghost use Rattle.types.specs.Index.{wordOf};
+ghost use Rattle.types.specs.Index.{materializeBound, wordOf};
 ghost use Rattle.store.specs.Slots.{slotsIn};
 ghost use Rattle.model.specs.Rows.{downFrom};
 ghost use Rattle.model.specs.Data as rule;
@@ -42,7 +43,7 @@ fn record_delta_shortcut(s: &mut [u32], i: usize, n: Number)
     words::write(s, 32 * i + layout::SHORTCUT, n);
 }
 
-// An entry that is not there is refused by 6, where the Rust panics.
+// An entry that is not there is refused, where the Rust panics.
 fn resolve_at(s: &mut [u32], key: u32, at: ShiftedTxnIndex, n: Number) -> Materialized
     requires valid { ⌜ dataValid (now s) ≡ true ⌝ }
     ensures recorded { λ r.
@@ -50,7 +51,7 @@ fn resolve_at(s: &mut [u32], key: u32, at: ShiftedTxnIndex, n: Number) -> Materi
 {
     match find_entry(s, key, at) {
         Found::Absent(_) => {
-            return Materialized::Refused(6);
+            return Materialized::Refused(refusal::NOTHING_THERE);
         }
         Found::There(i) => {
             record_delta_shortcut(s, i, n);
@@ -62,7 +63,7 @@ fn resolve_at(s: &mut [u32], key: u32, at: ShiftedTxnIndex, n: Number) -> Materi
 // +1 makes sure we include the delta from txn_idx.
 pub fn materialize_delta(s: &mut [u32], key: u32, txn_idx: TxnIndex) -> Materialized
     requires valid { ⌜ dataValid (now s) ≡ true ⌝ }
-    requires served { ⌜ «txn_idx» < 4294967294 ⌝ }
+    requires served { ⌜ «txn_idx» < materializeBound ⌝ }
     ensures materialized { λ r.
         ⌜ Materializes (now (s .entry)) key (suc «txn_idx») (λ own. rule.materializeDelta own (downFrom key (suc «txn_idx») (entriesIn (now (s .entry))))) (rule.readOf (downFrom key (suc «txn_idx») (entriesIn (now (s .entry))))) r (now (s .exit)) ⌝ }
 {
@@ -74,22 +75,22 @@ pub fn materialize_delta(s: &mut [u32], key: u32, txn_idx: TxnIndex) -> Material
             return Materialized::Unresolved(op);
         }
         MVDataOutput::LayoutUnderDelta => {
-            return Materialized::Refused(9);
+            return Materialized::Refused(refusal::LAYOUT_UNDER_DELTA);
         }
         MVDataOutput::NoNumberUnderDelta => {
-            return Materialized::Refused(10);
+            return Materialized::Refused(refusal::NO_NUMBER_UNDER_DELTA);
         }
         MVDataOutput::Versioned(_, _, _) => {
-            return Materialized::Refused(13);
+            return Materialized::Refused(refusal::NOT_MATERIALIZABLE);
         }
         MVDataOutput::Uninitialized => {
-            return Materialized::Refused(13);
+            return Materialized::Refused(refusal::NOT_MATERIALIZABLE);
         }
         MVDataOutput::Dependency(_) => {
-            return Materialized::Refused(13);
+            return Materialized::Refused(refusal::NOT_MATERIALIZABLE);
         }
         MVDataOutput::DeltaApplicationFailure => {
-            return Materialized::Refused(13);
+            return Materialized::Refused(refusal::NOT_MATERIALIZABLE);
         }
     }
 }

@@ -12,11 +12,11 @@ ghost use mathlib.Core.Bool.{cond, not, _&&_};
 ghost use Prim.Native.Nat.{_≤_, _<_};
 ghost use lib.Dec.{leb, eqb};
 ghost use lib.ListN.{length, getD, take, drop};
-ghost use Rattle.delta.specs.Delta.{deltaOk};
+ghost use Rattle.delta.specs.Delta.{deltaWidth, deltaOk};
 ghost use Rattle.types.specs.Value.{isExchanged};
 ghost use Rattle.types.specs.ValueWithLayout.{wordsOf};
 ghost use Rattle.store.specs.Slots.{slotWidth, slotsIn, slotAt, joined, isBefore, allZero};
-ghost use Rattle.versioned_data.specs.Layout.{dataValid, slotOk, bodyTest};
+ghost use Rattle.versioned_data.specs.Layout.{deltaStart, dataValid, slotOk, bodyTest};
 
 // Whether the head of slot i is that of an entry: in use, word 3 zero, a form and a flag.
 fn head_ok(s: &[u32], i: usize) -> bool
@@ -76,7 +76,7 @@ fn delta_ok(s: &[u32], i: usize, j: usize) -> bool
     requires within { ⌜ j ≤ slotWidth ⌝ }
     ensures delta { λ r.
         ⌜ r
-        ≡ (not (eqb (getD (slotAt i (now (s .entry))) 2 0) 0) && deltaOk (take 17 (drop 6 (slotAt i (now (s .entry)))))
+        ≡ (not (eqb (getD (slotAt i (now (s .entry))) 2 0) 0) && deltaOk (take deltaWidth (drop deltaStart (slotAt i (now (s .entry)))))
         && allZero (drop j (slotAt i (now (s .entry))))) ⌝ }
 {
     if word(s, i, layout::PLACE) == 0 {

@@ -118,7 +118,7 @@ fn form_at(s: &[u32], key: u32, i: usize) -> u32
     if word(s, j, layout::KEY) != key {
         return NO_FORM;
     }
-    if word(s, j, layout::FLAG) == 1 {
+    if word(s, j, layout::FLAG) == layout::ESTIMATE {
         return NO_FORM;
     }
     word(s, j, layout::FORM)
@@ -142,7 +142,7 @@ fn stop(s: &[u32], key: u32, i: usize, acc: Accumulator) -> MVDataOutput
     }
     let at = ShiftedTxnIndex::from_word(word(s, j, layout::PLACE));
     let flag = word(s, j, layout::FLAG);
-    if flag == 1 {
+    if flag == layout::ESTIMATE {
         return dependency(at);
     }
     if word(s, j, layout::FORM) == layout::WRITE {

@@ -1,6 +1,6 @@
 -- `versioned_data::base::kept` meets its contract.
 -- Assumes nothing.
-use Rattle.versioned_data.proofs.Bases.{kept-same, kept-other}
+use Rattle.versioned_data.proofs.BaseTests.{kept-same, kept-other}
 use Rattle.versioned_data.proofs.base.kept.Statement.{statement}
 use Rattle.versioned_data.proofs.base.kept.Tie as tie
 

@@ -2,7 +2,7 @@
 -- Assumes nothing.
 use mathlib.Core.Path.{sym, _∙_}
 use borrow.Author.Needs.{needs}
-use Rattle.versioned_data.proofs.Bases.{over-both, over-raw, raw-over, raw-both}
+use Rattle.versioned_data.proofs.BaseTests.{over-both, over-raw, raw-over, raw-both}
 use Rattle.versioned_data.proofs.base.over_base.Statement.{statement}
 use Rattle.versioned_data.proofs.base.over_base.Tie as tie
 

@@ -1,7 +1,7 @@
 -- `versioned_data::base::same_exchanged` meets its contract.
 -- Assumes nothing.
 use borrow.Author.Needs.{needs}
-use Rattle.versioned_data.proofs.Bases.{exchanged-layout, exchanged-one, exchanged-bytes}
+use Rattle.versioned_data.proofs.BaseTests.{exchanged-layout, exchanged-one, exchanged-bytes}
 use Rattle.versioned_data.proofs.base.same_exchanged.Statement.{statement}
 use Rattle.versioned_data.proofs.base.same_exchanged.Tie as tie
 

@@ -2,9 +2,9 @@
 -- Assumes nothing.
 use mathlib.Core.Path.{refl}
 use borrow.Author.Needs.{needs}
-use Rattle.types.proofs.Shifted.{shifted-word}
-use Rattle.versioned_data.proofs.Operations.{found-among, delta-added}
-use Rattle.versioned_data.proofs.Holding.{packed-valid}
+use Rattle.types.proofs.IndexLaws.{shifted-word}
+use Rattle.versioned_data.proofs.EntryOperations.{found-among, delta-added}
+use Rattle.versioned_data.proofs.EntriesHeld.{packed-valid}
 use Rattle.versioned_data.proofs.edit.add_delta.Statement.{statement}
 use Rattle.versioned_data.proofs.edit.add_delta.Tie as tie
 
@@ -19,14 +19,18 @@ new-delta-from-requires c κs = search needs
 
 put-entry-requires : tie.Need-put-entry-requires
 put-entry-requires c κs =
-    (packed-valid _ (c .before .before .before .before .before .before .before .before .pre .0), found-among _ (c .before .before .before .before .before .before .before .before .pre .0) _ _ _ refl _ (c .before .before .before .find-entry .ensures))
+    let at-start = c .before .before .before .before .before .before .before .before in
+    (packed-valid _ (at-start .pre .0), found-among _ (at-start .pre .0) _ _ _ refl _ (c .before .before .before .find-entry .ensures))
 
 same-length : tie.Need-same-length
 same-length c = search needs
 
 returns : tie.Need-returns
 returns c =
-    delta-added _ (c .before .before .before .before .before .before .before .before .before .before .before .pre .0) _ _ _ (shifted-word _ _ (c .before .before .before .before .before .before .before .before .new .ensures)) _ (c .before .before .before .before .before .before .find-entry .ensures) _ _ _ _
+    let at-start = c .before .before .before .before .before .before .before .before .before .before .before in
+    let at-new = c .before .before .before .before .before .before .before .before in
+    let at-find-entry = c .before .before .before .before .before .before in
+    delta-added _ (at-start .pre .0) _ _ _ (shifted-word _ _ (at-new .new .ensures)) _ (at-find-entry .find-entry .ensures) _ _ _ _
     (c .before .before .before .before .before .new-delta-from .ensures) (c .before .before .put-entry .ensures)
 
 pub add-delta-spec : {M : Type 1} → statement M

@@ -2,7 +2,7 @@
 -- Assumes nothing.
 use native.Mathlib.Omega.{arith}
 use borrow.Author.Needs.{needs}
-use Rattle.versioned_data.proofs.Putting.{there-room, there-words, base-absent, base-there}
+use Rattle.versioned_data.proofs.SlotPuts.{there-room, there-words, base-absent, base-there}
 use Rattle.versioned_data.proofs.edit.base_at.Statement.{statement}
 use Rattle.versioned_data.proofs.edit.base_at.Tie as tie
 
@@ -39,8 +39,11 @@ over-base-requires c κs = search needs
 
 returns-2 : tie.Need-returns-2
 returns-2 c =
-    base-there _ _ _ (c .before .before .before .before .found .given .1) (there-room _ _ _ (c .before .before .before .before .before .before .before .before .pre .0) (c .before .before .before .before .found .given .1)) _ _
-    (λ j. c .before .before .before .before .before .before .before .shared-slice-known .given j .fits) (λ j. c .before .before .before .before .before .before .shared-slice-known2 .given j .fits) (c .before .before .before .before .before .before .before .before .pre .1) _ _
+    let at-start = c .before .before .before .before .before .before .before .before in
+    let at-shared-slice-known = c .before .before .before .before .before .before .before in
+    let at-shared-slice-known2 = c .before .before .before .before .before .before in
+    base-there _ _ _ (c .before .before .before .before .found .given .1) (there-room _ _ _ (at-start .pre .0) (c .before .before .before .before .found .given .1)) _ _
+    (λ j. at-shared-slice-known .shared-slice-known .given j .fits) (λ j. at-shared-slice-known2 .shared-slice-known2 .given j .fits) (at-start .pre .1) _ _
     (c .before .before .read .ensures) (c .before .read2 .ensures) _ (c .over-base .ensures)
 
 pub base-at-spec : {M : Type 1} → statement M

@@ -2,7 +2,7 @@
 -- Assumes nothing.
 use native.Mathlib.Omega.{arith}
 use borrow.Author.Needs.{needs}
-use Rattle.versioned_data.proofs.Putting.{there-room, may-absent, may-delta, may-higher}
+use Rattle.versioned_data.proofs.SlotPuts.{there-room, may-absent, may-delta, may-higher}
 use Rattle.versioned_data.proofs.edit.may_write.Statement.{statement}
 use Rattle.versioned_data.proofs.edit.may_write.Tie as tie
 
@@ -26,7 +26,8 @@ returns-2 c =
 
 word-requires-2 : tie.Need-word-requires-2
 word-requires-2 c κs =
-    (there-room _ _ _ (c .before .before .before .before .before .before .pre) (c .before .before .before .found .given .1), omega arith)
+    let at-start = c .before .before .before .before .before .before in
+    (there-room _ _ _ (at-start .pre) (c .before .before .before .found .given .1), omega arith)
 
 returns-3 : tie.Need-returns-3
 returns-3 c =

@@ -1,7 +1,7 @@
 -- `versioned_data::fetch::fetch_data` meets its contract.
 -- Assumes nothing.
 use borrow.Author.Needs.{needs}
-use Rattle.versioned_data.proofs.Bounds.{bound-above, read-by}
+use Rattle.versioned_data.proofs.WalkBounds.{bound-above, read-by}
 use Rattle.versioned_data.proofs.fetch.fetch_data.Statement.{statement}
 use Rattle.versioned_data.proofs.fetch.fetch_data.Tie as tie
 

@@ -1,8 +1,8 @@
 -- `versioned_data::fetch::read_at` meets its contract.
 -- Assumes nothing.
 use borrow.Author.Needs.{needs}
-use Rattle.versioned_data.proofs.Bounds.{within-entries, read-found}
-use Rattle.versioned_data.proofs.Holding.{packed-valid}
+use Rattle.versioned_data.proofs.WalkBounds.{within-entries, read-found}
+use Rattle.versioned_data.proofs.EntriesHeld.{packed-valid}
 use Rattle.versioned_data.proofs.fetch.read_at.Statement.{statement}
 use Rattle.versioned_data.proofs.fetch.read_at.Tie as tie
 

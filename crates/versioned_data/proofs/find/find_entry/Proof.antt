@@ -2,8 +2,8 @@
 -- Assumes nothing.
 use borrow.Author.Needs.{needs}
 use native.Mathlib.Omega.{arith}
-use Rattle.versioned_data.proofs.Holding.{packed-valid}
-use Rattle.versioned_data.proofs.Finding.{found-word}
+use Rattle.versioned_data.proofs.EntriesHeld.{packed-valid}
+use Rattle.versioned_data.proofs.EntryFinds.{found-word}
 use Rattle.versioned_data.proofs.find.find_entry.Statement.{statement}
 use Rattle.versioned_data.proofs.find.find_entry.Tie as tie
 

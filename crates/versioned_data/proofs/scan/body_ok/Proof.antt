@@ -1,7 +1,7 @@
 -- `versioned_data::scan::body_ok` meets its contract.
 -- Assumes nothing.
 use borrow.Author.Needs.{needs}
-use Rattle.versioned_data.proofs.Scanning.{body-write, body-delta, body-shortcut}
+use Rattle.versioned_data.proofs.ScanSteps.{body-write, body-delta, body-shortcut}
 use Rattle.versioned_data.proofs.scan.body_ok.Statement.{statement}
 use Rattle.versioned_data.proofs.scan.body_ok.Tie as tie
 

@@ -1,7 +1,7 @@
 -- `versioned_data::scan::head_ok` meets its contract.
 -- Assumes nothing.
 use borrow.Author.Needs.{needs}
-use Rattle.versioned_data.proofs.Scanning.{head-unused, head-third, head-form, head-flag}
+use Rattle.versioned_data.proofs.ScanSteps.{head-unused, head-third, head-form, head-flag}
 use Rattle.versioned_data.proofs.scan.head_ok.Statement.{statement}
 use Rattle.versioned_data.proofs.scan.head_ok.Tie as tie
 
@@ -27,7 +27,9 @@ word-requires-4 : tie.Need-word-requires-4
 word-requires-4 c κs = search needs
 
 returns-4 : tie.Need-returns-4
-returns-4 c = head-flag _ _ _ (c .before .before .before .before .before .before .word .ensures) (c .before .before .before .before .before .if1 .left) _ (c .before .before .before .before .word2 .ensures) (c .before .before .before .if2 .left) _ (c .before .before .word3 .ensures) (c .before .if3 .left) _ (c .word4 .ensures)
+returns-4 c =
+    let at-word = c .before .before .before .before .before .before in
+    head-flag _ _ _ (at-word .word .ensures) (c .before .before .before .before .before .if1 .left) _ (c .before .before .before .before .word2 .ensures) (c .before .before .before .if2 .left) _ (c .before .before .word3 .ensures) (c .before .if3 .left) _ (c .word4 .ensures)
 
 pub head-ok-spec : {M : Type 1} → statement M
 head-ok-spec =

@@ -1,7 +1,7 @@
 -- `versioned_data::scan::joins` meets its contract.
 -- Assumes nothing.
 use borrow.Author.Needs.{needs}
-use Rattle.store.proofs.Scans.{joined-first, joined-next}
+use Rattle.store.proofs.SlotScans.{joined-first, joined-next}
 use Rattle.versioned_data.proofs.scan.joins.Statement.{statement}
 use Rattle.versioned_data.proofs.scan.joins.Tie as tie
 

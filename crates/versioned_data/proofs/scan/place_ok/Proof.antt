@@ -1,7 +1,7 @@
 -- `versioned_data::scan::place_ok` meets its contract.
 -- Assumes nothing.
 use borrow.Author.Needs.{needs}
-use Rattle.versioned_data.proofs.Scanning.{placed-above, placed-again, placed-base}
+use Rattle.versioned_data.proofs.ScanSteps.{placed-above, placed-again, placed-base}
 use Rattle.versioned_data.proofs.scan.place_ok.Statement.{statement}
 use Rattle.versioned_data.proofs.scan.place_ok.Tie as tie
 

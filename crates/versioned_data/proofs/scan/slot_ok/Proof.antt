@@ -1,7 +1,7 @@
 -- `versioned_data::scan::slot_ok` meets its contract.
 -- Assumes nothing.
 use borrow.Author.Needs.{needs}
-use Rattle.versioned_data.proofs.Scanning.{slot-head, slot-body}
+use Rattle.versioned_data.proofs.ScanSteps.{slot-head, slot-body}
 use Rattle.versioned_data.proofs.scan.slot_ok.Statement.{statement}
 use Rattle.versioned_data.proofs.scan.slot_ok.Tie as tie
 

@@ -3,8 +3,10 @@
 use mathlib.Core.Path.{refl, _∙_}
 use native.Mathlib.Omega.{arith}
 use borrow.Author.Needs.{needs}
-use Rattle.store.proofs.Words.{slot-inside, part-inside}
-use Rattle.versioned_data.proofs.Steps.{last-inside, last-few, met-pos, met-form, slot-delta, deeper-canonical, deeper-valid, deeper-walk}
+use Rattle.delta.specs.Delta.{deltaWidth}
+use Rattle.store.proofs.StoreWords.{slot-inside, part-inside}
+use Rattle.versioned_data.specs.Layout.{deltaStart}
+use Rattle.versioned_data.proofs.WalkSteps.{last-inside, last-few, met-pos, met-form, slot-delta, deeper-canonical, deeper-valid, deeper-walk}
 use Prim.Native.Nat.{ℕ, _<_}
 use borrow.Fn.Kinds.{In}
 use borrow.Fn.PlainCycle.{Measures, is, falls, and}
@@ -136,7 +138,7 @@ walk-read-requires : (t : ℕ) → walk-lts.Need-read-requires (
   walk.Post,
 ) (walk-at t) walk.Post
 walk-read-requires t c κs =
-    part-inside _ 6 17 _ (last-few _ _ (met-pos _ (c .before .before .before .pre .1 .0) _ _ (c .before .before .before .pre .1 .1 .0) _ (c .before .form-at .ensures) 1 (c .if1 .left) (omega arith)) (c .before .before .before .pre .1 .1 .0)) (omega arith)
+    part-inside _ deltaStart deltaWidth _ (last-few _ _ (met-pos _ (c .before .before .before .pre .1 .0) _ _ (c .before .before .before .pre .1 .1 .0) _ (c .before .form-at .ensures) 1 (c .if1 .left) (omega arith)) (c .before .before .before .pre .1 .1 .0)) (omega arith)
 
 walk-accumulate-requires : (t : ℕ) → walk-lts.Need-accumulate-requires (
   form-at-reads.Asked,
@@ -181,7 +183,8 @@ walk-returns-2 : (t : ℕ) → walk-lts.Need-returns-2 (
   walk.Post,
 ) (walk-at t) walk.Post
 walk-returns-2 t c =
-    deeper-walk _ (c .before .before .before .before .before .before .pre .1 .0) _ _ (c .before .before .before .before .before .before .pre .1 .1 .0) _ (c .before .before .before .before .form-at .ensures) 1 (c .before .before .before .if1 .left) (omega arith) refl _ _ (c .before .before .read .ensures) _ (c .before .accumulate .ensures) _ (c .walk .ensures)
+    let at-start = c .before .before .before .before .before .before in
+    deeper-walk _ (at-start .pre .1 .0) _ _ (at-start .pre .1 .1 .0) _ (c .before .before .before .before .form-at .ensures) 1 (c .before .before .before .if1 .left) (omega arith) refl _ _ (c .before .before .read .ensures) _ (c .before .accumulate .ensures) _ (c .walk .ensures)
 
 pub +walk-spec : {M : Type 1} → statement M
 +walk-spec = close μ-walk λ t. walk-lts.spec (

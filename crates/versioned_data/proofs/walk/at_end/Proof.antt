@@ -1,7 +1,7 @@
 -- `versioned_data::walk::at_end` meets its contract.
 -- Assumes nothing.
 use borrow.Author.Needs.{needs}
-use Rattle.versioned_data.proofs.Walks.{end-empty, end-gathered, end-failed}
+use Rattle.versioned_data.proofs.WalkAnswers.{end-empty, end-gathered, end-failed}
 use Rattle.versioned_data.proofs.walk.at_end.Statement.{statement}
 use Rattle.versioned_data.proofs.walk.at_end.Tie as tie
 

@@ -2,9 +2,9 @@
 -- Assumes nothing.
 use native.Mathlib.Omega.{arith}
 use borrow.Author.Needs.{needs}
-use Rattle.store.proofs.Words.{slot-inside, part-inside}
-use Rattle.types.proofs.Values.{read-words}
-use Rattle.versioned_data.proofs.Walks.{write-empty, write-gathered, write-failed}
+use Rattle.store.proofs.StoreWords.{slot-inside, part-inside}
+use Rattle.types.proofs.ValueLaws.{read-words}
+use Rattle.versioned_data.proofs.WalkAnswers.{write-empty, write-gathered, write-failed}
 use Rattle.versioned_data.proofs.walk.at_write.Statement.{statement}
 use Rattle.versioned_data.proofs.walk.at_write.Tie as tie
 
@@ -39,10 +39,14 @@ returns : tie.Need-returns
 returns c = write-empty _ _ _ _ (c .before .before .before .word .ensures) _ _ (c .enum-told .given .1) (c .before .before .read .ensures)
 
 returns-2 : tie.Need-returns-2
-returns-2 c = write-gathered _ _ _ _ (c .before .before .before .before .word .ensures) _ _ _ _ (c .before .enum-told2 .given .1) (read-words (c .before .before .before .before .before .before .args .s .now) _ _ (λ i. c .before .before .before .before .before .shared-slice-known .given i .fits) (part-inside _ 7 7 _ (c .before .before .before .before .before .before .pre .0) (omega arith)) (c .before .before .before .read .ensures)) (c .below-deltas .ensures)
+returns-2 c =
+    let at-start = c .before .before .before .before .before .before in
+    write-gathered _ _ _ _ (c .before .before .before .before .word .ensures) _ _ _ _ (c .before .enum-told2 .given .1) (read-words (at-start .args .s .now) _ _ (λ i. c .before .before .before .before .before .shared-slice-known .given i .fits) (part-inside _ 7 7 _ (at-start .pre .0) (omega arith)) (c .before .before .before .read .ensures)) (c .below-deltas .ensures)
 
 returns-3 : tie.Need-returns-3
-returns-3 c = write-failed _ _ _ _ (c .before .before .before .before .word .ensures) _ _ _ (c .before .enum-told3 .given .1) (read-words (c .before .before .before .before .before .before .args .s .now) _ _ (λ i. c .before .before .before .before .before .shared-slice-known .given i .fits) (part-inside _ 7 7 _ (c .before .before .before .before .before .before .pre .0) (omega arith)) (c .before .before .before .read .ensures)) (c .below-deltas2 .ensures)
+returns-3 c =
+    let at-start = c .before .before .before .before .before .before in
+    write-failed _ _ _ _ (c .before .before .before .before .word .ensures) _ _ _ (c .before .enum-told3 .given .1) (read-words (at-start .args .s .now) _ _ (λ i. c .before .before .before .before .before .shared-slice-known .given i .fits) (part-inside _ 7 7 _ (at-start .pre .0) (omega arith)) (c .before .before .before .read .ensures)) (c .below-deltas2 .ensures)
 
 pub at-write-spec : {M : Type 1} → statement M
 at-write-spec =

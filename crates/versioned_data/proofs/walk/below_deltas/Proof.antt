@@ -2,7 +2,7 @@
 -- Assumes nothing.
 use borrow.Author.Needs.{needs}
 use mathlib.Core.Path.{sym, _∙_}
-use Rattle.versioned_data.proofs.Walks.{below-layout, below-deleted, below-number, below-none}
+use Rattle.versioned_data.proofs.WalkAnswers.{below-layout, below-deleted, below-number, below-none}
 use Rattle.versioned_data.proofs.walk.below_deltas.Statement.{statement}
 use Rattle.versioned_data.proofs.walk.below_deltas.Tie as tie
 
@@ -22,7 +22,9 @@ enum-known-n : tie.Need-enum-known-n
 enum-known-n c = search needs
 
 onto-requires : tie.Need-onto-requires
-onto-requires c κs = c .before .before .before .before .before .before .pre
+onto-requires c κs =
+    let at-start = c .before .before .before .before .before .before in
+    at-start .pre
 
 enum-told-2 : tie.Need-enum-told-2
 enum-told-2 c = search needs
@@ -31,7 +33,9 @@ returns-2 : tie.Need-returns-2
 returns-2 c = below-deleted _ _ _ _ (sym (c .before .before .before .before .has-layout .ensures) ∙ c .before .before .before .if1 .left) _ (c .before .before .as-u128 .ensures) (search needs) (c .enum-told .given .1)
 
 returns-3 : tie.Need-returns-3
-returns-3 c = below-number _ _ _ _ (sym (c .before .before .before .before .before .before .has-layout .ensures) ∙ c .before .before .before .before .before .if1 .left) _ (c .before .before .before .before .as-u128 .ensures) _ _ (c .before .before .n .given .1) (c .onto .ensures)
+returns-3 c =
+    let at-has-layout = c .before .before .before .before .before .before in
+    below-number _ _ _ _ (sym (at-has-layout .has-layout .ensures) ∙ c .before .before .before .before .before .if1 .left) _ (c .before .before .before .before .as-u128 .ensures) _ _ (c .before .before .n .given .1) (c .onto .ensures)
 
 returns-4 : tie.Need-returns-4
 returns-4 c = below-none _ _ _ _ (sym (c .before .before .before .before .has-layout .ensures) ∙ c .before .before .before .if1 .left) _ (c .before .before .as-u128 .ensures) (c .enum-told2 .given .1)

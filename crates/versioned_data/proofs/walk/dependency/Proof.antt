@@ -1,7 +1,7 @@
 -- `versioned_data::walk::dependency` meets its contract.
 -- Assumes nothing.
 use borrow.Author.Needs.{needs}
-use Rattle.versioned_data.proofs.Walks.{waits-index, waits-storage}
+use Rattle.versioned_data.proofs.WalkAnswers.{waits-index, waits-storage}
 use Rattle.versioned_data.proofs.walk.dependency.Statement.{statement}
 use Rattle.versioned_data.proofs.walk.dependency.Tie as tie
 

@@ -1,7 +1,7 @@
 -- `versioned_data::walk::onto` meets its contract.
 -- Assumes nothing.
 use borrow.Author.Needs.{needs}
-use Rattle.versioned_data.proofs.Walks.{gathered-valid, onto-empty, onto-value, onto-outside, onto-failed}
+use Rattle.versioned_data.proofs.WalkAnswers.{gathered-valid, onto-empty, onto-value, onto-outside, onto-failed}
 use Rattle.versioned_data.proofs.walk.onto.Statement.{statement}
 use Rattle.versioned_data.proofs.walk.onto.Tie as tie
 

@@ -3,8 +3,8 @@
 use mathlib.Core.Path.{refl}
 use native.Mathlib.Omega.{arith}
 use borrow.Author.Needs.{needs}
-use Rattle.versioned_data.proofs.Bounds.{empty-canonical, empty-valid, read-walk}
-use Rattle.versioned_data.proofs.Steps.{last-few, met-pos, read-write}
+use Rattle.versioned_data.proofs.WalkBounds.{empty-canonical, empty-valid, read-walk}
+use Rattle.versioned_data.proofs.WalkSteps.{last-few, met-pos, read-write}
 use Rattle.versioned_data.proofs.walk.read_from.Statement.{statement}
 use Rattle.versioned_data.proofs.walk.read_from.Tie as tie
 
@@ -30,7 +30,9 @@ at-write-requires : tie.Need-at-write-requires
 at-write-requires c κs = (last-few _ _ (met-pos _ (c .before .before .before .before .before .pre .0) _ _ (c .before .before .before .before .before .pre .1) _ (c .before .before .before .form-at .ensures) 0 (c .before .before .if1 .left) (omega arith)) (c .before .before .before .before .before .pre .1), empty-valid)
 
 returns-2 : tie.Need-returns-2
-returns-2 c = read-write _ (c .before .before .before .before .before .before .pre .0) _ _ (c .before .before .before .before .before .before .pre .1) _ (c .before .before .before .before .form-at .ensures) 0 (c .before .before .before .if1 .left) (omega arith) refl _ (c .before .before .word .ensures) _ (c .before .from-word .ensures) _ (c .at-write .ensures)
+returns-2 c =
+    let at-start = c .before .before .before .before .before .before in
+    read-write _ (at-start .pre .0) _ _ (at-start .pre .1) _ (c .before .before .before .before .form-at .ensures) 0 (c .before .before .before .if1 .left) (omega arith) refl _ (c .before .before .word .ensures) _ (c .before .from-word .ensures) _ (c .at-write .ensures)
 
 pub read-from-spec : {M : Type 1} → statement M
 read-from-spec = tie.close (tie.spec form-at-requires walk-requires returns sub-j word-requires from-word-requires at-write-requires returns-2)

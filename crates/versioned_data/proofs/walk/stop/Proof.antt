@@ -2,8 +2,9 @@
 -- Assumes nothing.
 use native.Mathlib.Omega.{arith}
 use borrow.Author.Needs.{needs}
-use Rattle.store.proofs.Words.{slot-inside, part-inside}
-use Rattle.versioned_data.proofs.Steps.{last-few, stop-none, stop-other, stop-estimate, stop-write, stop-shortcut}
+use Rattle.store.proofs.StoreWords.{slot-inside, part-inside}
+use Rattle.versioned_data.specs.Layout.{deltaEnd}
+use Rattle.versioned_data.proofs.WalkSteps.{last-few, stop-none, stop-other, stop-estimate, stop-write, stop-shortcut}
 use Rattle.versioned_data.proofs.walk.stop.Statement.{statement}
 use Rattle.versioned_data.proofs.walk.stop.Tie as tie
 
@@ -34,47 +35,80 @@ from-word-requires : tie.Need-from-word-requires
 from-word-requires c κs = search needs
 
 word-requires-3 : tie.Need-word-requires-3
-word-requires-3 c κs = (last-few _ _ (c .before .before .before .before .if1 .left) (c .before .before .before .before .before .before .pre .1 .0), omega arith)
+word-requires-3 c κs =
+    let at-start = c .before .before .before .before .before .before in
+    (last-few _ _ (c .before .before .before .before .if1 .left) (at-start .pre .1 .0), omega arith)
 
 dependency-requires : tie.Need-dependency-requires
 dependency-requires c κs = search needs
 
 returns-3 : tie.Need-returns-3
 returns-3 c =
-    stop-estimate _ _ (c .before .before .before .before .before .before .before .if1 .left) (c .before .before .before .before .before .before .before .before .before .pre .1 .0) _ _ (c .before .before .before .before .before .before .word .ensures)
+    let at-start = c .before .before .before .before .before .before .before .before .before in
+    let at-if1 = c .before .before .before .before .before .before .before in
+    let at-word = c .before .before .before .before .before .before in
+    stop-estimate _ _ (at-if1 .if1 .left) (at-start .pre .1 .0) _ _ (at-word .word .ensures)
     (c .before .before .before .before .before .if2 .left) _ (c .before .before .word3 .ensures) _ _ (c .before .before .before .before .word2 .ensures) _
     (c .before .before .before .from-word .ensures) (c .before .if3 .taken) _ (c .dependency .ensures)
 
 word-requires-4 : tie.Need-word-requires-4
-word-requires-4 c κs = (last-few _ _ (c .before .before .before .before .before .before .if1 .left) (c .before .before .before .before .before .before .before .before .pre .1 .0), omega arith)
+word-requires-4 c κs =
+    let at-start = c .before .before .before .before .before .before .before .before in
+    let at-if1 = c .before .before .before .before .before .before in
+    (last-few _ _ (at-if1 .if1 .left) (at-start .pre .1 .0), omega arith)
 
 at-write-requires : tie.Need-at-write-requires
-at-write-requires c κs = (last-few _ _ (c .before .before .before .before .before .before .before .before .if1 .left) (c .before .before .before .before .before .before .before .before .before .before .pre .1 .0), c .before .before .before .before .before .before .before .before .before .before .pre .1 .1 .1 .0)
+at-write-requires c κs =
+    let at-start = c .before .before .before .before .before .before .before .before .before .before in
+    let at-if1 = c .before .before .before .before .before .before .before .before in
+    (last-few _ _ (at-if1 .if1 .left) (at-start .pre .1 .0), at-start .pre .1 .1 .1 .0)
 
 returns-4 : tie.Need-returns-4
 returns-4 c =
-    stop-write _ _ (c .before .before .before .before .before .before .before .before .before .if1 .left) (c .before .before .before .before .before .before .before .before .before .before .before .pre .1 .0) _ _ (c .before .before .before .before .before .before .before .before .word .ensures)
-    (c .before .before .before .before .before .before .before .if2 .left) _ (c .before .before .before .before .word3 .ensures) _ _ (c .before .before .before .before .before .before .word2 .ensures) _
+    let at-start = c .before .before .before .before .before .before .before .before .before .before .before in
+    let at-if1 = c .before .before .before .before .before .before .before .before .before in
+    let at-word = c .before .before .before .before .before .before .before .before in
+    let at-if2 = c .before .before .before .before .before .before .before in
+    let at-word2 = c .before .before .before .before .before .before in
+    stop-write _ _ (at-if1 .if1 .left) (at-start .pre .1 .0) _ _ (at-word .word .ensures)
+    (at-if2 .if2 .left) _ (c .before .before .before .before .word3 .ensures) _ _ (at-word2 .word2 .ensures) _
     (c .before .before .before .before .before .from-word .ensures) (c .before .before .before .if3 .left) _ (c .before .before .word4 .ensures) (c .before .if4 .taken) _ (c .at-write .ensures)
 
 mul-read : tie.Need-mul-read
-mul-read c = omega (arith, slot-inside _ _ (last-few _ _ (c .before .before .before .before .before .before .before .before .if1 .left) (c .before .before .before .before .before .before .before .before .before .before .pre .1 .0)))
+mul-read c =
+    let at-start = c .before .before .before .before .before .before .before .before .before .before in
+    let at-if1 = c .before .before .before .before .before .before .before .before in
+    omega (arith, slot-inside _ _ (last-few _ _ (at-if1 .if1 .left) (at-start .pre .1 .0)))
 
 add-read : tie.Need-add-read
-add-read c = omega (arith, slot-inside _ _ (last-few _ _ (c .before .before .before .before .before .before .before .before .if1 .left) (c .before .before .before .before .before .before .before .before .before .before .pre .1 .0)))
+add-read c =
+    let at-start = c .before .before .before .before .before .before .before .before .before .before in
+    let at-if1 = c .before .before .before .before .before .before .before .before in
+    omega (arith, slot-inside _ _ (last-few _ _ (at-if1 .if1 .left) (at-start .pre .1 .0)))
 
 read-requires : tie.Need-read-requires
-read-requires c κs = part-inside _ 23 4 _ (last-few _ _ (c .before .before .before .before .before .before .before .before .if1 .left) (c .before .before .before .before .before .before .before .before .before .before .pre .1 .0)) (omega arith)
+read-requires c κs =
+    let at-start = c .before .before .before .before .before .before .before .before .before .before in
+    let at-if1 = c .before .before .before .before .before .before .before .before in
+    part-inside _ deltaEnd 4 _ (last-few _ _ (at-if1 .if1 .left) (at-start .pre .1 .0)) (omega arith)
 
 onto-requires : tie.Need-onto-requires
-onto-requires c κs = c .before .before .before .before .before .before .before .before .before .before .before .pre .1 .1 .1 .0
+onto-requires c κs =
+    let at-start = c .before .before .before .before .before .before .before .before .before .before .before in
+    at-start .pre .1 .1 .1 .0
 
 returns-5 : tie.Need-returns-5
 returns-5 c =
-    stop-shortcut _ _ (c .before .before .before .before .before .before .before .before .before .before .if1 .left) (c .before .before .before .before .before .before .before .before .before .before .before .before .pre .1 .0) _ _ (c .before .before .before .before .before .before .before .before .before .word .ensures)
-    (c .before .before .before .before .before .before .before .before .if2 .left) _ (c .before .before .before .before .before .word3 .ensures) _ _ (c .before .before .before .before .before .before .before .word2 .ensures) _
-    (c .before .before .before .before .before .before .from-word .ensures) (c .before .before .before .before .if3 .left) _ (c .before .before .before .word4 .ensures)
-    (c .before .before .before .before .before .before .before .before .before .before .before .before .pre .0) (c .before .before .before .before .before .before .before .before .before .before .before .before .pre .1 .1 .1 .1) (c .before .before .if4 .left) _ (c .before .read .ensures) _ (c .onto .ensures)
+    let at-start = c .before .before .before .before .before .before .before .before .before .before .before .before in
+    let at-if1 = c .before .before .before .before .before .before .before .before .before .before in
+    let at-word = c .before .before .before .before .before .before .before .before .before in
+    let at-if2 = c .before .before .before .before .before .before .before .before in
+    let at-word2 = c .before .before .before .before .before .before .before in
+    let at-from-word = c .before .before .before .before .before .before in
+    stop-shortcut _ _ (at-if1 .if1 .left) (at-start .pre .1 .0) _ _ (at-word .word .ensures)
+    (at-if2 .if2 .left) _ (c .before .before .before .before .before .word3 .ensures) _ _ (at-word2 .word2 .ensures) _
+    (at-from-word .from-word .ensures) (c .before .before .before .before .if3 .left) _ (c .before .before .before .word4 .ensures)
+    (at-start .pre .0) (at-start .pre .1 .1 .1 .1) (c .before .before .if4 .left) _ (c .before .read .ensures) _ (c .onto .ensures)
 
 pub stop-spec : {M : Type 1} → statement M
 stop-spec =

@@ -6,8 +6,8 @@ use Prim.Native.Nat.{ℕ, _<_}
 use native.Mathlib.Omega.{arith}
 use lib.ListN.{length, getD, length-map, List·getD-map}
 use Rattle.store.specs.Slots.{Slot, slotsIn, held, slotAt}
-use Rattle.store.proofs.Encode.{held-fits, held-slots}
-use Rattle.store.proofs.Words.{slots-at}
+use Rattle.store.proofs.StoreEncoding.{held-fits, held-slots}
+use Rattle.store.proofs.StoreWords.{slots-at}
 use Rattle.versioned_data.specs.Layout.{entryOf, entriesIn}
 
 module _ (s : List ℕ) (i : ℕ) (h : i < length (entriesIn s)) where

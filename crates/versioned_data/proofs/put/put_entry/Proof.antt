@@ -1,9 +1,9 @@
--- `versioned_data::edit::put_entry` meets its contract.
+-- `versioned_data::put::put_entry` meets its contract.
 -- Assumes nothing.
 use borrow.Author.Needs.{needs}
-use Rattle.versioned_data.proofs.Putting.{there-room, among-absent, put-there, put-absent-is}
-use Rattle.versioned_data.proofs.edit.put_entry.Statement.{statement}
-use Rattle.versioned_data.proofs.edit.put_entry.Tie as tie
+use Rattle.versioned_data.proofs.SlotPuts.{there-room, among-absent, put-there, put-absent-is}
+use Rattle.versioned_data.proofs.put.put_entry.Statement.{statement}
+use Rattle.versioned_data.proofs.put.put_entry.Tie as tie
 
 enum-known-found : tie.Need-enum-known-found
 enum-known-found c = search needs

@@ -6,92 +6,95 @@ use mathlib.Core.List.{List, [], _∷_}
 use mathlib.Core.Option.{Option, none, some}
 use Prim.Native.Nat.{ℕ, suc, _+_, _*_, _<_}
 use native.Mathlib.Omega.{arith}
-use lib.Dec.{leb, ltb}
+use lib.Dec.{eqb}
 use lib.ListN.{length, set, length-set}
-use borrow.Author.Tests.{le-leb, ltb-true}
+use borrow.Author.Tests.{eqb-true}
+use Rattle.types.specs.Units.{lackOf}
+use Rattle.types.proofs.UnitLaws.{lack-none, lack-told}
 use Rattle.store.specs.Slots.{Slot, slotWidth, slotsIn, held, opened, closed, written}
 use Rattle.store.specs.Found.{foundOf}
-use Rattle.store.proofs.Runs.{length-spliced}
-use Rattle.model.specs.Rows.{find, put, erase, Edit, leave, clear, edited}
+use Rattle.store.proofs.SlotSplices.{length-spliced}
+use Rattle.model.specs.Rows.{find, put, erase, Edit, leave, clear, edited, rank, rowAt}
 use Rattle.model.specs.Rows
 use Rattle.model.specs.Data.{Entry, Ruling, refuse, accept, doneAnswer, markEstimate, remove}
-use Rattle.model.specs.Rows.{rank, rowAt}
-use Rattle.model.proofs.Places.{rank-le, put-present}
-use Rattle.versioned_data.specs.Layout.{slotOf, entriesIn, holding, dataValid, fitsIn, resultOf, wordsAfter}
-use Rattle.versioned_data.specs.Found.{foundIn, putResult, putWords, Put}
+use Rattle.model.proofs.RowPlaces.{rank-le, put-present}
+use Rattle.versioned_data.specs.Layout.{slotOf, entriesIn, holding, dataValid, lackIn, fitsIn, resultOf, wordsAfter}
+use Rattle.versioned_data.specs.Found.{foundIn, lackOfMore, putResult, putWords, SlotPut}
 use Rattle.versioned_data.specs.Edited.{Edited}
 use Rattle.store.specs.declared.search.Found.{Found}
 use Rattle.store.specs.declared.search.Found.the-variants.{There, Absent}
-use Rattle.versioned_data.proofs.Holding.{holding-entries, rising-valid, few-valid}
-use Rattle.versioned_data.proofs.Edits.{put-spliced, erase-spliced, inserted-valid, place-lt, replaced-valid, word-replaced-valid, erased-valid, slot-estimate}
-use Rattle.versioned_data.proofs.Finding.{length-held-valid}
+use Rattle.versioned_data.proofs.EntriesHeld.{holding-entries, rising-valid, few-valid}
+use Rattle.versioned_data.proofs.EntryEdits.{put-spliced, erase-spliced, inserted-valid, place-lt, replaced-valid, word-replaced-valid, erased-valid, slot-estimate}
+use Rattle.versioned_data.proofs.EntryFinds.{length-held-valid}
 
--- An edit that fits is made, and one that does not is refused by 14.
-module _ (s : List ℕ) (k p : ℕ) (answer : List ℕ) (e : Edit Entry) (b : Bool) (h : fitsIn s (edited k p e (entriesIn s)) ≡ b) where
-  result-fits : resultOf s k p (accept answer e) ≡ cond b 0 14
+-- An edit for which no unit lacks is made.
+module _ (s : List ℕ) (k p : ℕ) (answer : List ℕ) (e : Edit Entry) (h : lackIn s (edited k p e (entriesIn s)) ≡ 0) where
+  result-lack : resultOf s k p (accept answer e) ≡ 0
   unfolding resultOf
-  result-fits = rw h
+  result-lack = h
 
-  pub words-fit : wordsAfter s k p (accept answer e) ≡ cond b (holding s (edited k p e (entriesIn s))) s
-  unfolding wordsAfter
-  words-fit = rw h
+  pub words-lack : wordsAfter s k p (accept answer e) ≡ holding s (edited k p e (entriesIn s))
+  unfolding wordsAfter fitsIn
+  words-lack = rw h
 
 module _ (s : List ℕ) (v : dataValid s ≡ true) (k p : ℕ) where
-  pub fits-leave : fitsIn s (edited k p leave (entriesIn s)) ≡ true
-  unfolding fitsIn edited
-  fits-leave = le-leb (length (entriesIn s)) (slotsIn (length s)) (few-valid s v)
+  pub lack-leave : lackIn s (edited k p leave (entriesIn s)) ≡ 0
+  unfolding lackIn edited
+  lack-leave = lack-none (length (entriesIn s)) (slotsIn (length s)) (few-valid s v)
 
-  fits-absent : (a : Entry) → find k p (entriesIn s) ≡ none → fitsIn s (edited k p (Rows.set a) (entriesIn s)) ≡ ltb (length (held s)) (slotsIn (length s))
-  unfolding fitsIn edited
-  fits-absent a e =
+  lack-absent : (a : Entry) → find k p (entriesIn s) ≡ none → lackIn s (edited k p (Rows.set a) (entriesIn s)) ≡ lackOfMore s
+  unfolding lackIn lackOfMore edited
+  lack-absent a e =
       let n : length (put k p a (entriesIn s)) ≡ suc (length (held s)) =
       ap length (put-spliced s v k p a e)
       ∙ length-spliced (rank k p (entriesIn s)) 0 (rowAt k p a ∷ []) (entriesIn s) (omega (arith, rank-le k p (entriesIn s) (rising-valid s v)))
       ∙ omega (arith, length-held-valid s v k p)
       in
-      ap (λ (m : ℕ). leb m (slotsIn (length s))) n
+      ap (λ (m : ℕ). lackOf m (slotsIn (length s))) n
 
   module _ (b : Entry) (e : find k p (entriesIn s) ≡ some b) where
-    pub fits-present : (a : Entry) → fitsIn s (edited k p (Rows.set a) (entriesIn s)) ≡ true
-    unfolding fitsIn edited
-    fits-present a =
-        le-leb (length (put k p a (entriesIn s))) (slotsIn (length s))
+    pub lack-present : (a : Entry) → lackIn s (edited k p (Rows.set a) (entriesIn s)) ≡ 0
+    unfolding lackIn edited
+    lack-present a =
+        lack-none (length (put k p a (entriesIn s))) (slotsIn (length s))
         (omega (arith, few-valid s v, ap length (put-present k p (entriesIn s) (rising-valid s v) b e a) ∙ length-set (entriesIn s) (rank k p (entriesIn s)) (rowAt k p a)))
 
-    fits-clear : fitsIn s (edited k p clear (entriesIn s)) ≡ true
-    unfolding fitsIn edited
-    fits-clear =
-        le-leb (length (erase k p (entriesIn s))) (slotsIn (length s))
+    lack-clear : lackIn s (edited k p clear (entriesIn s)) ≡ 0
+    unfolding lackIn edited
+    lack-clear =
+        lack-none (length (erase k p (entriesIn s))) (slotsIn (length s))
         (omega (arith, few-valid s v, ap length (erase-spliced s v k p b e) ∙ length-spliced (rank k p (entriesIn s)) 1 [] (entriesIn s) (omega (arith, place-lt s v k p b e))))
+
+-- One slot more: where no unit lacks, a slot is free.
+pub more-told : (s : List ℕ) → lackOfMore s ≡ 0 → length (held s) < slotsIn (length s)
+unfolding lackOfMore
+more-told s h = omega (arith, lack-told (suc (length (held s))) (slotsIn (length s)) h)
 
 -- A slot put where the entry was found, as the ruling to set it there.
 module _ (s : List ℕ) (v : dataValid s ≡ true) (k p : ℕ) (answer : List ℕ) (a : Entry) where
   put-result : resultOf s k p (accept answer (Rows.set a)) ≡ putResult (foundIn s k p) s
-  unfolding putResult foundIn foundOf
+  unfolding resultOf putResult foundIn foundOf
   put-result = go (find k p (entriesIn s)) refl
     where
       go : (o : Option Entry) → find k p (entriesIn s) ≡ o → resultOf s k p (accept answer (Rows.set a)) ≡ putResult (foundOf (rank k p (entriesIn s)) (find k p (entriesIn s))) s
-      go none e = rw e (result-fits s k p answer (Rows.set a) (ltb (length (held s)) (slotsIn (length s))) (fits-absent s v k p a e))
-      go (some b) e = rw e (result-fits s k p answer (Rows.set a) true (fits-present s v k p b e a))
+      go none e = rw e (lack-absent s v k p a e)
+      go (some b) e = rw e (result-lack s k p answer (Rows.set a) (lack-present s v k p b e a))
 
   put-words : wordsAfter s k p (accept answer (Rows.set a)) ≡ putWords (foundIn s k p) (slotOf (rowAt k p a)) s
-  unfolding putWords foundIn foundOf edited
+  unfolding wordsAfter fitsIn putWords foundIn foundOf edited
   put-words = go (find k p (entriesIn s)) refl
     where
-      free : find k p (entriesIn s) ≡ none → (f : Bool) → ltb (length (held s)) (slotsIn (length s)) ≡ f →
+      free : find k p (entriesIn s) ≡ none → (f : Bool) → eqb (lackOfMore s) 0 ≡ f →
           cond f (holding s (put k p a (entriesIn s))) s ≡ cond f (written (rank k p (entriesIn s)) (slotOf (rowAt k p a)) (opened 1 (rank k p (entriesIn s)) (length (held s)) s)) s
       free e true f =
           sym
           (ap (λ (n : ℕ). written (rank k p (entriesIn s)) (slotOf (rowAt k p a)) (opened 1 (rank k p (entriesIn s)) n s)) (length-held-valid s v k p)
-          ∙ inserted-valid s v k p a e (omega (arith, length-held-valid s v k p, ltb-true (length (held s)) (slotsIn (length s)) f)))
+          ∙ inserted-valid s v k p a e (omega (arith, length-held-valid s v k p, more-told s (eqb-true (lackOfMore s) 0 f))))
       free e false f = refl
 
       go : (o : Option Entry) → find k p (entriesIn s) ≡ o → wordsAfter s k p (accept answer (Rows.set a)) ≡ putWords (foundOf (rank k p (entriesIn s)) (find k p (entriesIn s))) (slotOf (rowAt k p a)) s
-      go none e =
-          rw e
-          (words-fit s k p answer (Rows.set a) (ltb (length (held s)) (slotsIn (length s))) (fits-absent s v k p a e)
-          ∙ free e (ltb (length (held s)) (slotsIn (length s))) refl)
-      go (some b) e = rw e (words-fit s k p answer (Rows.set a) true (fits-present s v k p b e a) ∙ sym (replaced-valid s v k p b e a))
+      go none e = rw (e, lack-absent s v k p a e) (free e (eqb (lackOfMore s) 0) refl)
+      go (some b) e = rw e (words-lack s k p answer (Rows.set a) (lack-present s v k p b e a) ∙ sym (replaced-valid s v k p b e a))
 
 module _ (s : List ℕ) (k p : ℕ) (rule : Option Entry → Ruling (Edit Entry)) (r : ℕ) (after : List ℕ) where
   -- refused: no word is changed
@@ -105,12 +108,12 @@ module _ (s : List ℕ) (k p : ℕ) (rule : Option Entry → Ruling (Edit Entry)
     unfolding edited
     edited-left answer e f g =
         record {
-          result = f ∙ sym (ap (resultOf s k p) e ∙ result-fits s k p answer leave true (fits-leave s v k p));
-          words = g ∙ sym (ap (wordsAfter s k p) e ∙ words-fit s k p answer leave true (fits-leave s v k p) ∙ holding-entries s v);
+          result = f ∙ sym (ap (resultOf s k p) e ∙ result-lack s k p answer leave (lack-leave s v k p));
+          words = g ∙ sym (ap (wordsAfter s k p) e ∙ words-lack s k p answer leave (lack-leave s v k p) ∙ holding-entries s v);
         }
 
     -- put where it was found
-    pub edited-put : (answer : List ℕ) (a : Entry) (f : Found) (u : Slot) → rule (find k p (entriesIn s)) ≡ accept answer (Rows.set a) → f ≡ foundIn s k p → u ≡ slotOf (rowAt k p a) → Put f u s r after → Edited s k p rule r after
+    pub edited-put : (answer : List ℕ) (a : Entry) (f : Found) (u : Slot) → rule (find k p (entriesIn s)) ≡ accept answer (Rows.set a) → f ≡ foundIn s k p → u ≡ slotOf (rowAt k p a) → SlotPut f u s r after → Edited s k p rule r after
     edited-put answer a f u e g h q =
         record {
           result = q .result ∙ ap (λ (x : Found). putResult x s) g ∙ sym (ap (resultOf s k p) e ∙ put-result s v k p answer a);
@@ -169,11 +172,11 @@ module _ (s : List ℕ) (v : dataValid s ≡ true) (k p i : ℕ) (t : There i �
           let a : Entry = record { cell = b .cell; estimate = true } in
           let m : markEstimate (find k p (entriesIn s)) ≡ accept doneAnswer (Rows.set a) = mark-some (find k p (entriesIn s)) b e in
           record {
-            result = f ∙ sym (ap (resultOf s k p) m ∙ result-fits s k p doneAnswer (Rows.set a) true (fits-present s v k p b e a));
+            result = f ∙ sym (ap (resultOf s k p) m ∙ result-lack s k p doneAnswer (Rows.set a) (lack-present s v k p b e a));
             words =
                 g ∙ ap (λ (j : ℕ). set s (slotWidth * j + 5) 1) h
                 ∙ word-replaced-valid s v k p b e 5 1 a (omega arith) (slot-estimate k p (b .cell) (b .estimate))
-                ∙ sym (ap (wordsAfter s k p) m ∙ words-fit s k p doneAnswer (Rows.set a) true (fits-present s v k p b e a));
+                ∙ sym (ap (wordsAfter s k p) m ∙ words-lack s k p doneAnswer (Rows.set a) (lack-present s v k p b e a));
           }
 
   -- the entry is removed
@@ -185,10 +188,10 @@ module _ (s : List ℕ) (v : dataValid s ≡ true) (k p i : ℕ) (t : There i �
       by b e h =
           let m : remove (find k p (entriesIn s)) ≡ accept doneAnswer clear = remove-some (find k p (entriesIn s)) b e in
           record {
-            result = f ∙ sym (ap (resultOf s k p) m ∙ result-fits s k p doneAnswer clear true (fits-clear s v k p b e));
+            result = f ∙ sym (ap (resultOf s k p) m ∙ result-lack s k p doneAnswer clear (lack-clear s v k p b e));
             words =
                 g ∙ ap (λ (j : ℕ). closed 1 j (length (held s)) s) h
                 ∙ ap (λ (n : ℕ). closed 1 (rank k p (entriesIn s)) n s) (length-held-valid s v k p)
                 ∙ erased-valid s v k p b e
-                ∙ sym (ap (wordsAfter s k p) m ∙ words-fit s k p doneAnswer clear true (fits-clear s v k p b e));
+                ∙ sym (ap (wordsAfter s k p) m ∙ words-lack s k p doneAnswer clear (lack-clear s v k p b e));
           }

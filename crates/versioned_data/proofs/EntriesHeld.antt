@@ -5,24 +5,24 @@ use mathlib.Core.Bool.{Bool, true, false}
 use mathlib.Core.List.{List, [], _∷_, map}
 use Prim.Native.Nat.{ℕ, _-_, _≤_}
 use lib.ListN.{length, take, length-map}
-use Rattle.store.specs.Slots
+use Rattle.lists.specs.Lists.{every, front, keep}
+use Rattle.lists.proofs.Bools.{and-left, and-right}
+use Rattle.lists.proofs.Lists.{every-imp, keep-none}
 use Rattle.store.specs.Slots.{slotsIn, held, isWhole, before, packed, placeOf, sameWords}
-use Rattle.store.proofs.Lists.{same-words, words-same}
-use Rattle.store.proofs.Encode.{held-encode, packed-encode, length-encode, encode-encode, held-fits}
-use Rattle.model.specs.Rows.{Row, keep, every, rising, isBelow, isAbove}
+use Rattle.store.proofs.StoreEncoding.{held-encode, packed-encode, length-encode, encode-encode, held-fits}
+use Rattle.store.proofs.ZeroWords.{same-words, words-same}
+use Rattle.model.specs.Rows.{Row, rising, isBelow, isAbove, rank}
 use Rattle.model.specs.Data.{Entry}
 use Rattle.model.specs.Fine.{fineEntry, fineEntries}
-use Rattle.model.proofs.Lists.{and-left, and-right, keep-none, every-imp}
 use Rattle.model.proofs.Rows.{Side, lower, here, upper, side, above-not-below, at-above, above-above}
-use Rattle.model.specs.Rows.{rank}
 use Rattle.versioned_data.specs.Layout.{slotOf, entryOf, entriesIn, holding, dataValid}
-use Rattle.versioned_data.proofs.Entries.{slot-below, slots-whole, slots-used, entries-back, slots-ordered}
+use Rattle.versioned_data.proofs.EntrySlots.{slot-below, slots-whole, slots-used, entries-back, slots-ordered}
 
-pub fine-rising : (rs : List (Row Entry)) → fineEntries rs ≡ true → rising rs ≡ true
+fine-rising : (rs : List (Row Entry)) → fineEntries rs ≡ true → rising rs ≡ true
 unfolding fineEntries
 fine-rising rs h = and-left (rising rs) (every fineEntry rs) h
 
-pub fine-every : (rs : List (Row Entry)) → fineEntries rs ≡ true → every fineEntry rs ≡ true
+fine-every : (rs : List (Row Entry)) → fineEntries rs ≡ true → every fineEntry rs ≡ true
 unfolding fineEntries
 fine-every rs h = and-right (rising rs) (every fineEntry rs) h
 
@@ -31,10 +31,10 @@ module _ (s : List ℕ) (rs : List (Row Entry)) (f : fineEntries rs ≡ true) (h
   few : length (map slotOf rs) ≤ slotsIn (length s)
   few = rw (length-map rs slotOf) h
 
-  whole : Slots.every isWhole (map slotOf rs) ≡ true
+  whole : every isWhole (map slotOf rs) ≡ true
   whole = slots-whole rs (fine-every rs f)
 
-  pub held-holding : held (holding s rs) ≡ map slotOf rs
+  held-holding : held (holding s rs) ≡ map slotOf rs
   unfolding holding
   held-holding = held-encode s (map slotOf rs) whole few (slots-used rs)
 
@@ -50,7 +50,7 @@ module _ (s : List ℕ) (rs : List (Row Entry)) (f : fineEntries rs ≡ true) (h
   unfolding holding
   holding-again qs = encode-encode s (map slotOf rs) whole few (map slotOf qs)
 
-  pub packed-holding : packed (holding s rs) ≡ true
+  packed-holding : packed (holding s rs) ≡ true
   unfolding holding
   packed-holding = packed-encode s (map slotOf rs) whole few (slots-used rs) ∙ slots-ordered rs ∙ fine-rising rs f
 
@@ -85,23 +85,23 @@ module _ (s : List ℕ) (v : dataValid s ≡ true) where
   held-valid = ap held (sym holding-entries) ∙ held-holding s (entriesIn s) fine-valid few-valid
 
 -- Positions.
-front-map : {A B : Type 0} (q : B → Bool) (g : A → B) (xs : List A) → Slots.front q (map g xs) ≡ map g (Slots.front (λ x. q (g x)) xs)
-unfolding Slots.front
+front-map : {A B : Type 0} (q : B → Bool) (g : A → B) (xs : List A) → front q (map g xs) ≡ map g (front (λ x. q (g x)) xs)
+unfolding front
 front-map q g [] = refl
 front-map q g (x ∷ xs) = go (q (g x)) refl (front-map q g xs)
   where
-    go : (b : Bool) → q (g x) ≡ b → Slots.front q (map g xs) ≡ map g (Slots.front (λ x. q (g x)) xs) →
-        Slots.front q (map g (x ∷ xs)) ≡ map g (Slots.front (λ x. q (g x)) (x ∷ xs))
+    go : (b : Bool) → q (g x) ≡ b → front q (map g xs) ≡ map g (front (λ x. q (g x)) xs) →
+        front q (map g (x ∷ xs)) ≡ map g (front (λ x. q (g x)) (x ∷ xs))
     go true e ih = rw (e, ih)
     go false e ih = rw e
 
-front-same : {A : Type 0} (p q : A → Bool) → ((x : A) → p x ≡ q x) → (xs : List A) → Slots.front p xs ≡ Slots.front q xs
-unfolding Slots.front
+front-same : {A : Type 0} (p q : A → Bool) → ((x : A) → p x ≡ q x) → (xs : List A) → front p xs ≡ front q xs
+unfolding front
 front-same p q h [] = refl
 front-same p q h (x ∷ xs) = rw (h x, front-same p q h xs)
 
-front-below : (k p : ℕ) (rs : List (Row Entry)) → rising rs ≡ true → Slots.front (isBelow k p) rs ≡ keep (isBelow k p) rs
-unfolding Slots.front rising keep
+front-below : (k p : ℕ) (rs : List (Row Entry)) → rising rs ≡ true → front (isBelow k p) rs ≡ keep (isBelow k p) rs
+unfolding front rising keep
 front-below k p [] g = refl
 front-below k p (r ∷ rs) g = go (side k p r) (front-below k p rs (and-right (every (isAbove (r .key) (r .place)) rs) (rising rs) g))
   where
@@ -110,7 +110,7 @@ front-below k p (r ∷ rs) g = go (side k p r) (front-below k p rs (and-right (e
         keep-none (isBelow k p) (isAbove k p) (λ q. above-not-below k p q) rs
         (every-imp (isAbove (r .key) (r .place)) (isAbove k p) f rs (and-left (every (isAbove (r .key) (r .place)) rs) (rising rs) g))
 
-    go : Side k p r → Slots.front (isBelow k p) rs ≡ keep (isBelow k p) rs → Slots.front (isBelow k p) (r ∷ rs) ≡ keep (isBelow k p) (r ∷ rs)
+    go : Side k p r → front (isBelow k p) rs ≡ keep (isBelow k p) rs → front (isBelow k p) (r ∷ rs) ≡ keep (isBelow k p) (r ∷ rs)
     go (lower b a u) ih = rw (b, ih)
     go (here b a u) ih = rw (b, none-below (λ q. at-above k p r q a))
     go (upper b a u) ih = rw (b, none-below (λ q. above-above k p r q u))
@@ -120,5 +120,5 @@ pub place-rank : (k p : ℕ) (rs : List (Row Entry)) → rising rs ≡ true → 
 unfolding placeOf rank
 place-rank k p rs g =
     ap length (front-map (λ u. before (take 4 u) (1 ∷ k ∷ p ∷ 0 ∷ [])) slotOf rs)
-    ∙ length-map (Slots.front (λ x. before (take 4 (slotOf x)) (1 ∷ k ∷ p ∷ 0 ∷ [])) rs) slotOf
+    ∙ length-map (front (λ x. before (take 4 (slotOf x)) (1 ∷ k ∷ p ∷ 0 ∷ [])) rs) slotOf
     ∙ ap length (front-same (λ x. before (take 4 (slotOf x)) (1 ∷ k ∷ p ∷ 0 ∷ [])) (isBelow k p) (slot-below k p) rs ∙ front-below k p rs g)

@@ -1,10 +1,10 @@
--- `versioned_data::edit::new_delta_from` meets its contract.
+-- `versioned_data::put::new_write_from` meets its contract.
 -- Assumes nothing.
 use mathlib.Core.Path.{refl}
 use borrow.Author.Needs.{needs}
-use Rattle.versioned_data.proofs.Putting.{delta-built}
-use Rattle.versioned_data.proofs.edit.new_delta_from.Statement.{statement}
-use Rattle.versioned_data.proofs.edit.new_delta_from.Tie as tie
+use Rattle.versioned_data.proofs.SlotPuts.{write-built}
+use Rattle.versioned_data.proofs.put.new_write_from.Statement.{statement}
+use Rattle.versioned_data.proofs.put.new_write_from.Tie as tie
 
 array-write-u : tie.Need-array-write-u
 array-write-u c = search needs
@@ -29,10 +29,10 @@ copy-words-requires c κs = search needs
 
 returns : tie.Need-returns
 returns c =
-    delta-built _ _ _ (c .before .before .before .word .ensures) _ _ _ _ (λ i. c .before .before .before .before .shared-slice-known .given i .fits) (c .before .before .before .before .before .pre .0) (c .before .before .before .before .before .pre .1) refl (c .before .copy-words .ensures)
+    write-built _ _ _ (c .before .before .before .word .ensures) _ _ _ _ _ (c .before .before .before .before .before .pre) refl (c .before .copy-words .ensures)
 
-pub new-delta-from-spec : {M : Type 1} → statement M
-new-delta-from-spec =
+pub new-write-from-spec : {M : Type 1} → statement M
+new-write-from-spec =
     tie.close
     (tie.spec
     array-write-u

@@ -13,13 +13,13 @@ use Rattle.types.specs.Index.{shift, shiftedOf, wordOf}
 use Rattle.types.specs.declared.index.ShiftedTxnIndex.{ShiftedTxnIndex}
 use Rattle.types.specs.declared.output.MVDataOutput.{MVDataOutput}
 use Rattle.store.specs.Slots.{held, placeOf}
-use Rattle.model.specs.Rows.{Row, downFrom}
+use Rattle.model.specs.Rows.{Row, downFrom, rank, downAt}
 use Rattle.model.specs.Data.{Entry, walk, readOf}
-use Rattle.model.specs.Rows.{rank, downAt}
-use Rattle.model.proofs.Places.{downAt-rank}
+use Rattle.model.proofs.RowPlaces.{downAt-rank}
 use Rattle.versioned_data.specs.Layout.{entryOf, entriesIn, dataValid}
 use Rattle.versioned_data.specs.Output.{outputOf}
-use Rattle.versioned_data.proofs.Holding.{held-valid, rising-valid, place-rank}
+use Rattle.versioned_data.proofs.EntriesHeld.{rising-valid}
+use Rattle.versioned_data.proofs.EntryFinds.{place-valid}
 
 -- the walk starts with nothing gathered
 pub empty-canonical : Empty ≡ accumulatorOf (exactly Empty)
@@ -39,14 +39,11 @@ unfolding entriesIn
 within-entries s i h = omega (arith, length-map (held s) entryOf)
 
 module _ (s : List ℕ) (v : dataValid s ≡ true) (key : ℕ) where
-  place-below : (bound : ℕ) → placeOf (1 ∷ key ∷ bound ∷ 0 ∷ []) (held s) ≡ rank key bound (entriesIn s)
-  place-below bound = ap (placeOf (1 ∷ key ∷ bound ∷ 0 ∷ [])) (held-valid s v) ∙ place-rank key bound (entriesIn s) (rising-valid s v)
-
   -- what the walk meets from there is what a reader sees
   down-below : (bound : ℕ) → 0 < bound → downAt key (placeOf (1 ∷ key ∷ bound ∷ 0 ∷ []) (held s)) (entriesIn s) ≡ downFrom key (bound - 1) (entriesIn s)
   down-below bound h =
       let n : bound ≡ suc (bound - 1) = omega arith in
-      ap (λ (k : ℕ). downAt key k (entriesIn s)) (place-below bound ∙ ap (λ (k : ℕ). rank key k (entriesIn s)) n)
+      ap (λ (k : ℕ). downAt key k (entriesIn s)) (place-valid s v key bound ∙ ap (λ (k : ℕ). rank key k (entriesIn s)) n)
       ∙ downAt-rank key (bound - 1) (entriesIn s) (rising-valid s v)
 
   pub read-found : (bound : ShiftedTxnIndex) → 0 < wordOf bound → (w : ℕ) → w ≡ wordOf bound → (i : ℕ) → i ≡ placeOf (1 ∷ key ∷ w ∷ 0 ∷ []) (held s) → (o : MVDataOutput) → o ≡ outputOf (readOf (downAt key i (entriesIn s))) → o ≡ outputOf (readOf (downFrom key (wordOf bound - 1) (entriesIn s)))

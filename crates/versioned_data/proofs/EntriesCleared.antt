@@ -6,11 +6,12 @@ use mathlib.Core.List.{[], map}
 use Prim.Native.Nat.{ℕ}
 use native.Mathlib.Omega.{arith}
 use lib.ListN.{replicate}
-use Rattle.store.proofs.Encode.{encode-cleared, held-cleared}
-use Rattle.model.specs.Rows.{every, rising}
+use Rattle.lists.specs.Lists.{every}
+use Rattle.store.proofs.StoreEncoding.{encode-cleared, held-cleared}
+use Rattle.model.specs.Rows.{rising}
 use Rattle.model.specs.Fine.{fineEntries}
 use Rattle.versioned_data.specs.Layout.{entryOf, entriesIn, holding, dataValid}
-use Rattle.versioned_data.proofs.Holding.{valid-holding}
+use Rattle.versioned_data.proofs.EntriesHeld.{valid-holding}
 
 holding-cleared : (n : ℕ) → holding (replicate n 0) [] ≡ replicate n 0
 unfolding holding

@@ -1,29 +1,26 @@
 -- A search of a valid store's slots finds the entry at a key and shifted index, or where it would stand.
 -- Assumes nothing.
 use mathlib.Core.Path.{_≡_, refl, sym, _∙_, ap}
-use mathlib.Core.Bool.{Bool, true, false, cond, _&&_}
+use mathlib.Core.Bool.{Bool, true, false, cond, and-true}
 use mathlib.Core.List.{List, [], _∷_, map}
 use Prim.Native.Nat.{ℕ}
 use lib.Dec.{eqb}
 use lib.ListN.{length, length-map}
+use Rattle.lists.specs.Lists.{keep}
 use Rattle.store.specs.Slots
 use Rattle.store.specs.Slots.{held, placeOf, padded, sameWords}
 use Rattle.store.specs.Found.{isThere, foundAt, foundOf, isAmong}
 use Rattle.store.specs.declared.search.Found.{Found}
 use Rattle.store.specs.declared.search.Found.the-variants.{There, Absent}
-use Rattle.store.proofs.Encode.{packed-ordered}
-use Rattle.store.proofs.Finds.{found-among}
-use Rattle.model.specs.Rows.{Row, keep, isAt, heldFirst, find, rank}
+use Rattle.store.proofs.StoreEncoding.{packed-ordered}
+use Rattle.store.proofs.SlotFinds.{found-among}
+use Rattle.model.specs.Rows.{Row, isAt, heldFirst, find, rank}
 use Rattle.model.specs.Data.{Entry}
 use Rattle.versioned_data.specs.Layout.{slotOf, entriesIn, dataValid}
 use Rattle.versioned_data.specs.Found.{foundIn}
-use Rattle.versioned_data.proofs.Holding.{rising-valid, packed-valid, held-valid, place-rank}
+use Rattle.versioned_data.proofs.EntriesHeld.{rising-valid, packed-valid, held-valid, place-rank}
 
 -- A slot stands at a key and shifted index where its entry does.
-and-true : (b : Bool) → (b && true) ≡ b
-and-true true = refl
-and-true false = refl
-
 slot-at : (k p : ℕ) (r : Row Entry) → Slots.isAt (1 ∷ k ∷ p ∷ 0 ∷ []) (slotOf r) ≡ isAt k p r
 unfolding Slots.isAt sameWords isAt slotOf padded
 slot-at k p r = rw (and-true (eqb (r .place) p))
@@ -47,7 +44,7 @@ module _ (s : List ℕ) (v : dataValid s ≡ true) (k p : ℕ) where
   pub length-held-valid : length (held s) ≡ length (entriesIn s)
   length-held-valid = ap length (held-valid s v) ∙ length-map (entriesIn s) slotOf
 
-  pub found-valid : foundAt (1 ∷ k ∷ p ∷ 0 ∷ []) (held s) ≡ foundIn s k p
+  found-valid : foundAt (1 ∷ k ∷ p ∷ 0 ∷ []) (held s) ≡ foundIn s k p
   unfolding foundAt foundIn
   found-valid =
       ap (λ (i : ℕ). cond (isThere (1 ∷ k ∷ p ∷ 0 ∷ []) (held s)) (There i) (Absent i)) place-valid

@@ -20,7 +20,7 @@ use Rattle.delta.specs.declared.Accumulator.the-variants.{Empty, Gathered, Fail
 use Rattle.types.specs.Index.{wordOf, indexOf}
 use Rattle.types.specs.Value.{layoutOf, isDeletion, hasNumber, numberIn}
 use Rattle.types.specs.ValueWithLayout.{wordsOf, asU128Of}
-use Rattle.types.specs.ValueWithLayout.{valueOf as structOf}
+use Rattle.types.specs.ValueWithLayout.{valueFrom as structOf}
 use Rattle.types.specs.declared.index.IndexOrStorage.{IndexOrStorage}
 use Rattle.types.specs.declared.index.IndexOrStorage.the-variants.{Index, StorageVersion}
 use Rattle.types.specs.declared.index.ShiftedTxnIndex.{ShiftedTxnIndex}
@@ -29,10 +29,10 @@ use Rattle.types.specs.declared.value.AsU128.{AsU128}
 use Rattle.types.specs.declared.value.AsU128.the-variants as u128
 use Rattle.types.specs.declared.output.MVDataOutput.{MVDataOutput}
 use Rattle.types.specs.declared.output.MVDataOutput.the-variants.{Versioned, Resolved, Unresolved, Uninitialized, Dependency, DeltaApplicationFailure, LayoutUnderDelta, NoNumberUnderDelta}
-use Rattle.types.proofs.Shifted.{index-base, index-suc}
-use Rattle.types.proofs.Values.{value-words}
+use Rattle.types.proofs.IndexLaws.{index-base, index-suc}
+use Rattle.types.proofs.ValueLaws.{value-words}
 use Rattle.model.specs.Data.{dependency, atEnd, onto, resolvedOr, belowDeltas, atWrite}
-use Rattle.versioned_data.specs.Output.{outputOf, refusalOf}
+use Rattle.versioned_data.specs.Output.{outputOf, refusalOutput}
 
 value-of : (v : Number) (m : Option ℕ) → Value v ≡ appliedOf m → Resolved v ≡ outputOf (resolvedOr m)
 unfolding appliedOf resolvedOr outputOf
@@ -90,7 +90,7 @@ module _ (acc : Accumulator) where
 
 module _ (a : Accumulated) (shifted : ShiftedTxnIndex) (incarnation : ℕ) (v : ValueWithLayout) where
   pub below-layout : not (eqb (layoutOf (wordsOf v)) 0) ≡ true → LayoutUnderDelta ≡ outputOf (belowDeltas a (wordOf shifted) incarnation (wordsOf v))
-  unfolding belowDeltas outputOf refusalOf
+  unfolding belowDeltas outputOf refusalOutput
   below-layout h = rw h
 
   module _ (h : not (eqb (layoutOf (wordsOf v)) 0) ≡ false) (r : AsU128) (told : r ≡ asU128Of (wordsOf v)) where
@@ -117,7 +117,7 @@ module _ (a : Accumulated) (shifted : ShiftedTxnIndex) (incarnation : ℕ) (v : 
             rw (h, e, f) (g ∙ ap (λ (k : ℕ). outputOf (onto a k)) (ap valueOf y ∙ valueOf-numberOf (numberIn (wordsOf v))))
 
     pub below-none : r ≡ u128.NotANumber → NoNumberUnderDelta ≡ outputOf (belowDeltas a (wordOf shifted) incarnation (wordsOf v))
-    unfolding belowDeltas outputOf refusalOf asU128Of
+    unfolding belowDeltas outputOf refusalOutput asU128Of
     below-none t = go (isDeletion (wordsOf v)) refl (hasNumber (wordsOf v)) refl
       where
         go : (d : Bool) → isDeletion (wordsOf v) ≡ d → (m : Bool) → hasNumber (wordsOf v) ≡ m → NoNumberUnderDelta ≡ outputOf (belowDeltas a (wordOf shifted) incarnation (wordsOf v))

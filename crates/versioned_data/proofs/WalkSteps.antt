@@ -9,38 +9,37 @@ use native.Mathlib.Decide.{ℕ-discrete}
 use lib.Dec.{leb, eqb}
 use lib.ListN.{length, getD, take, drop, length-map}
 use borrow.Author.Tests.{eq-eqb, ne-eqb}
+use Rattle.lists.specs.Lists.{every}
+use Rattle.lists.proofs.Bools.{and-left, and-right}
+use Rattle.lists.proofs.Lists.{every-at}
 use Rattle.number.specs.Number.{valueOf, numberOf}
 use Rattle.number.specs.Words.{valueOfWords, AreWords}
 use Rattle.number.specs.declared.Number.{Number}
-use Rattle.number.proofs.Digits.{words-take, words-drop}
 use Rattle.number.proofs.Halves.{valueOf-numberOf}
-use Rattle.delta.specs.Delta.{Accumulated, accumulate, validSoFar, deltaAt, deltaOk}
+use Rattle.delta.specs.Delta.{deltaWidth, Accumulated, accumulate, validSoFar, deltaAt, deltaOk}
 use Rattle.delta.specs.Op.{exact, exactly, accumulatorOf, opAt, validOp}
 use Rattle.delta.specs.declared.DeltaOp.{DeltaOp}
 use Rattle.delta.specs.declared.Accumulator.{Accumulator}
 use Rattle.delta.specs.declared.Accumulator.the-variants.{Empty}
-use Rattle.delta.proofs.Ops.{exact-opAt, validOp-opAt, validOp-valid, exactly-accumulatorOf}
-use Rattle.delta.proofs.Merging.{accumulate-valid}
+use Rattle.delta.proofs.DeltaOps.{exact-opAt, validOp-opAt, validOp-valid, exactly-accumulatorOf}
+use Rattle.delta.proofs.DeltaMerges.{accumulate-valid}
 use Rattle.types.specs.Index.{shiftedOf, wordOf}
-use Rattle.types.specs.Value.{valueAt}
+use Rattle.types.specs.Value.{valueWidth, valueAt}
 use Rattle.types.specs.declared.index.ShiftedTxnIndex.{ShiftedTxnIndex}
 use Rattle.types.specs.declared.output.MVDataOutput.{MVDataOutput}
-use Rattle.store.specs.Slots
 use Rattle.store.specs.Slots.{Slot, slotWidth, slotsIn, slotAt, held, packed, allZero, padded, sameWords}
-use Rattle.store.proofs.Words.{slotAt-part, slotAt-word, slot-inside, length-slotAt}
-use Rattle.store.proofs.Lists.{every-at, same-words}
-use Rattle.model.specs.Rows.{Row}
+use Rattle.store.proofs.StoreWords.{slotAt-part, slotAt-word}
+use Rattle.store.proofs.ZeroWords.{same-words}
+use Rattle.model.specs.Rows.{Row, downAt}
 use Rattle.model.specs.Fine.{fineEntry}
 use Rattle.model.specs.Data.{Entry, Read, dependency, atEnd, atWrite, atCell, atRow, past, onto, walk, readOf}
-use Rattle.model.proofs.Lists.{and-left, and-right}
-use Rattle.model.specs.Rows.{downAt}
-use Rattle.model.proofs.Places.{downAt-zero, downAt-suc}
-use Rattle.versioned_data.specs.Layout.{formOf, slotOf, cellOf, entryOf, entriesIn, dataValid, slotOk, bodyTest, slotTest}
+use Rattle.model.proofs.RowPlaces.{downAt-zero, downAt-suc}
+use Rattle.versioned_data.specs.Layout.{valueStart, deltaStart, deltaEnd, formOf, slotOf, cellOf, entryOf, entriesIn, dataValid, slotOk, bodyTest, slotTest}
 use Rattle.versioned_data.specs.Output.{outputOf}
-use Rattle.versioned_data.specs.Step.{formMet}
-use Rattle.versioned_data.proofs.Positions.{held-at, entry-at, at-few}
-use Rattle.versioned_data.proofs.ValidSlots.{valid-slots}
-use Rattle.versioned_data.proofs.SlotTest.{slotOk-test}
+use Rattle.versioned_data.specs.Step.{noForm, formMet}
+use Rattle.versioned_data.proofs.EntryPositions.{held-at, entry-at, at-few}
+use Rattle.versioned_data.proofs.ScanSlots.{valid-slots}
+use Rattle.versioned_data.proofs.ScanSlotWords.{slotOk-at}
 
 module _ (s : List ℕ) (v : dataValid s ≡ true) (j : ℕ) (h : j < length (entriesIn s)) where
   slot-ok : slotOk (slotAt j s) ≡ true
@@ -48,7 +47,7 @@ module _ (s : List ℕ) (v : dataValid s ≡ true) (j : ℕ) (h : j < length (en
   slot-ok =
       ap slotOk (sym (held-at s j h))
       ∙ every-at slotOk (held s) j [] (omega (arith, length-map (held s) entryOf))
-      (and-right (packed s) (Slots.every slotOk (held s)) (sym (valid-slots s) ∙ v))
+      (and-right (packed s) (every slotOk (held s)) (sym (valid-slots s) ∙ v))
 
   -- the form's word is the form
   form-word : formOf (cellOf (getD (slotAt j s) 4 0) (slotAt j s)) ≡ getD (slotAt j s) 4 0
@@ -56,7 +55,7 @@ module _ (s : List ℕ) (v : dataValid s ≡ true) (j : ℕ) (h : j < length (en
   form-word = ap (λ (l : List ℕ). getD l 4 0) (same-words _ _ (and-right (fineEntry (entryOf (slotAt j s))) (sameWords (slotOf (entryOf (slotAt j s))) (slotAt j s)) slot-ok))
 
 -- a form that is neither a write's nor a delta's is a shortcut's
-cell-shortcut : (a : Accumulated) (place n : ℕ) (u : Slot) (lower : Read) → (n ≡ 0 → ⊥) → (n ≡ 1 → ⊥) → atCell a place (cellOf n u) lower ≡ onto a (valueOfWords (take 4 (drop 23 u)))
+cell-shortcut : (a : Accumulated) (place n : ℕ) (u : Slot) (lower : Read) → (n ≡ 0 → ⊥) → (n ≡ 1 → ⊥) → atCell a place (cellOf n u) lower ≡ onto a (valueOfWords (take 4 (drop deltaEnd u)))
 unfolding cellOf atCell
 cell-shortcut a place zero u lower e f = absurd (e refl)
 cell-shortcut a place (suc zero) u lower e f = absurd (f refl)
@@ -98,29 +97,29 @@ module _ (s : List ℕ) (key j : ℕ) (h : j < length (entriesIn s)) where
             let f : eqb (getD (slotAt j s) 5 0) 1 ≡ false = rw (slot-word 5 (omega arith)) (ne-eqb (getD s (slotWidth * j + 5) 0) 1 done) in
             rw (down-here, f, slot-word 2 (omega arith), slot-word 4 (omega arith))
 
-        step-write : getD s (slotWidth * j + 4) 0 ≡ 0 → walk a (downAt key (suc j) (entriesIn s)) ≡ atWrite a (getD s (slotWidth * j + 2) 0) (getD s (slotWidth * j + 6) 0) (valueAt (slotWidth * j + 7) s)
+        step-write : getD s (slotWidth * j + 4) 0 ≡ 0 → walk a (downAt key (suc j) (entriesIn s)) ≡ atWrite a (getD s (slotWidth * j + 2) 0) (getD s (slotWidth * j + 6) 0) (valueAt (slotWidth * j + valueStart) s)
         unfolding cellOf atCell valueAt
-        step-write e = step-cell ∙ rw (e, slot-word 6 (omega arith), slotAt-part j 7 7 s (omega arith))
+        step-write e = step-cell ∙ rw (e, slot-word 6 (omega arith), slotAt-part j valueStart valueWidth s (omega arith))
 
-        step-shortcut : (getD s (slotWidth * j + 4) 0 ≡ 0 → ⊥) → (getD s (slotWidth * j + 4) 0 ≡ 1 → ⊥) → walk a (downAt key (suc j) (entriesIn s)) ≡ onto a (valueOfWords (take 4 (drop (slotWidth * j + 23) s)))
+        step-shortcut : (getD s (slotWidth * j + 4) 0 ≡ 0 → ⊥) → (getD s (slotWidth * j + 4) 0 ≡ 1 → ⊥) → walk a (downAt key (suc j) (entriesIn s)) ≡ onto a (valueOfWords (take 4 (drop (slotWidth * j + deltaEnd) s)))
         step-shortcut e f =
             step-cell ∙ cell-shortcut a (getD s (slotWidth * j + 2) 0) (getD s (slotWidth * j + 4) 0) (slotAt j s) lower e f
-            ∙ ap (λ (l : List ℕ). onto a (valueOfWords l)) (slotAt-part j 23 4 s (omega arith))
+            ∙ ap (λ (l : List ℕ). onto a (valueOfWords l)) (slotAt-part j deltaEnd 4 s (omega arith))
 
-        step-delta : getD s (slotWidth * j + 4) 0 ≡ 1 → walk a (downAt key (suc j) (entriesIn s)) ≡ walk (accumulate a (deltaAt (take 17 (drop (slotWidth * j + 6) s)))) (downAt key j (entriesIn s))
+        step-delta : getD s (slotWidth * j + 4) 0 ≡ 1 → walk a (downAt key (suc j) (entriesIn s)) ≡ walk (accumulate a (deltaAt (take deltaWidth (drop (slotWidth * j + deltaStart) s)))) (downAt key j (entriesIn s))
         unfolding cellOf atCell past lower
-        step-delta e = step-cell ∙ rw (e, slotAt-part j 6 17 s (omega arith))
+        step-delta e = step-cell ∙ rw (e, slotAt-part j deltaStart deltaWidth s (omega arith))
 
 -- what is met at the entry
 form-here : (s : List ℕ) → dataValid s ≡ true → (key j : ℕ) → j < length (entriesIn s) → getD s (slotWidth * j + 1) 0 ≡ key →
-    formMet (downAt key (suc j) (entriesIn s)) ≡ cond (eqb (getD s (slotWidth * j + 5) 0) 1) 3 (getD s (slotWidth * j + 4) 0)
+    formMet (downAt key (suc j) (entriesIn s)) ≡ cond (eqb (getD s (slotWidth * j + 5) 0) 1) noForm (getD s (slotWidth * j + 4) 0)
 unfolding entryOf formMet
 form-here s v key j h same = rw (down-here s key j h same, form-word s v j h, slotAt-word j 5 s (omega arith), slotAt-word j 4 s (omega arith))
 
 -- ---- the same from a position on the way down, by what its slot's words were found to be
 
 -- where no entry is left
-pub none-form : (key i : ℕ) (rows : List (Row Entry)) → i ≡ 0 → 3 ≡ formMet (downAt key i rows)
+pub none-form : (key i : ℕ) (rows : List (Row Entry)) → i ≡ 0 → noForm ≡ formMet (downAt key i rows)
 unfolding formMet
 none-form key i rows z = rw (z, downAt-zero key rows)
 
@@ -143,7 +142,7 @@ module _ (s : List ℕ) (i : ℕ) (p : i ≡ 0 → ⊥) (h : i ≤ length (entri
     other-down : (found ≡ key → ⊥) → downAt key i (entriesIn s) ≡ []
     other-down other = ap (λ (n : ℕ). downAt key n (entriesIn s)) last-is ∙ down-other s key (i - 1) last-inside (λ t. other (k ∙ t))
 
-    pub other-form : (found ≡ key → ⊥) → 3 ≡ formMet (downAt key i (entriesIn s))
+    pub other-form : (found ≡ key → ⊥) → noForm ≡ formMet (downAt key i (entriesIn s))
     unfolding formMet
     other-form other = rw (other-down other)
 
@@ -152,12 +151,12 @@ module _ (s : List ℕ) (i : ℕ) (p : i ≡ 0 → ⊥) (h : i ≤ length (entri
     stop-other acc other o e = rw (other-down other) e
 
     module _ (same : found ≡ key) (flag : ℕ) (b : flag ≡ getD s (slotWidth * (i - 1) + 5) 0) where
-      form-is : dataValid s ≡ true → formMet (downAt key i (entriesIn s)) ≡ cond (eqb flag 1) 3 (getD s (slotWidth * (i - 1) + 4) 0)
+      form-is : dataValid s ≡ true → formMet (downAt key i (entriesIn s)) ≡ cond (eqb flag 1) noForm (getD s (slotWidth * (i - 1) + 4) 0)
       form-is v =
           ap (λ (n : ℕ). formMet (downAt key n (entriesIn s))) last-is ∙ form-here s v key (i - 1) last-inside (sym k ∙ same)
-          ∙ ap (λ (n : ℕ). cond (eqb n 1) 3 (getD s (slotWidth * (i - 1) + 4) 0)) (sym b)
+          ∙ ap (λ (n : ℕ). cond (eqb n 1) noForm (getD s (slotWidth * (i - 1) + 4) 0)) (sym b)
 
-      pub estimate-form : dataValid s ≡ true → flag ≡ 1 → 3 ≡ formMet (downAt key i (entriesIn s))
+      pub estimate-form : dataValid s ≡ true → flag ≡ 1 → noForm ≡ formMet (downAt key i (entriesIn s))
       estimate-form v f = sym (form-is v ∙ rw (eq-eqb flag 1 f))
 
       pub done-form : dataValid s ≡ true → (flag ≡ 1 → ⊥) → (form : ℕ) → form ≡ getD s (slotWidth * (i - 1) + 4) 0 → form ≡ formMet (downAt key i (entriesIn s))
@@ -177,16 +176,16 @@ module _ (s : List ℕ) (i : ℕ) (p : i ≡ 0 → ⊥) (h : i ≤ length (entri
             (step-estimate s key (i - 1) last-inside (sym k ∙ same) (exactly acc) (sym b ∙ f) ∙ ap (λ (n : ℕ). dependency (n - 1)) place-is) o e
 
         module _ (done : flag ≡ 1 → ⊥) (form : ℕ) (m : form ≡ getD s (slotWidth * (i - 1) + 4) 0) where
-          pub stop-write : form ≡ 0 → (o : MVDataOutput) → o ≡ outputOf (atWrite (exactly acc) (wordOf shifted) (getD s (slotWidth * (i - 1) + 6) 0) (valueAt (slotWidth * (i - 1) + 7) s)) → o ≡ outputOf (walk (exactly acc) (downAt key i (entriesIn s)))
+          pub stop-write : form ≡ 0 → (o : MVDataOutput) → o ≡ outputOf (atWrite (exactly acc) (wordOf shifted) (getD s (slotWidth * (i - 1) + 6) 0) (valueAt (slotWidth * (i - 1) + valueStart) s)) → o ≡ outputOf (walk (exactly acc) (downAt key i (entriesIn s)))
           stop-write f o e =
-              from-last (atWrite (exactly acc) (wordOf shifted) (getD s (slotWidth * (i - 1) + 6) 0) (valueAt (slotWidth * (i - 1) + 7) s))
+              from-last (atWrite (exactly acc) (wordOf shifted) (getD s (slotWidth * (i - 1) + 6) 0) (valueAt (slotWidth * (i - 1) + valueStart) s))
               (step-write s key (i - 1) last-inside (sym k ∙ same) (exactly acc) (λ g. done (b ∙ g)) (sym m ∙ f)
-              ∙ ap (λ (n : ℕ). atWrite (exactly acc) n (getD s (slotWidth * (i - 1) + 6) 0) (valueAt (slotWidth * (i - 1) + 7) s)) place-is)
+              ∙ ap (λ (n : ℕ). atWrite (exactly acc) n (getD s (slotWidth * (i - 1) + 6) 0) (valueAt (slotWidth * (i - 1) + valueStart) s)) place-is)
               o e
 
-          pub stop-shortcut : dataValid s ≡ true → (formMet (downAt key i (entriesIn s)) ≡ 1 → ⊥) → (form ≡ 0 → ⊥) → (n : Number) → n ≡ numberOf (valueOfWords (take 4 (drop (slotWidth * (i - 1) + 23) s))) → (o : MVDataOutput) → o ≡ outputOf (onto (exactly acc) (valueOf n)) → o ≡ outputOf (walk (exactly acc) (downAt key i (entriesIn s)))
+          pub stop-shortcut : dataValid s ≡ true → (formMet (downAt key i (entriesIn s)) ≡ 1 → ⊥) → (form ≡ 0 → ⊥) → (n : Number) → n ≡ numberOf (valueOfWords (take 4 (drop (slotWidth * (i - 1) + deltaEnd) s))) → (o : MVDataOutput) → o ≡ outputOf (onto (exactly acc) (valueOf n)) → o ≡ outputOf (walk (exactly acc) (downAt key i (entriesIn s)))
           stop-shortcut v stops f n r o e =
-              let there : valueOf n ≡ valueOfWords (take 4 (drop (slotWidth * (i - 1) + 23) s)) = ap valueOf r ∙ valueOf-numberOf (valueOfWords (take 4 (drop (slotWidth * (i - 1) + 23) s))) in
+              let there : valueOf n ≡ valueOfWords (take 4 (drop (slotWidth * (i - 1) + deltaEnd) s)) = ap valueOf r ∙ valueOf-numberOf (valueOfWords (take 4 (drop (slotWidth * (i - 1) + deltaEnd) s))) in
               let alone : form ≡ 1 → ⊥ = λ g. stops (sym (done-form v done form m) ∙ g) in
               from-last (onto (exactly acc) (valueOf n))
               (step-shortcut s key (i - 1) last-inside (sym k ∙ same) (exactly acc) (λ x. done (b ∙ x)) (λ x. f (m ∙ x)) (λ x. alone (m ∙ x))
@@ -195,32 +194,32 @@ module _ (s : List ℕ) (i : ℕ) (p : i ≡ 0 → ⊥) (h : i ≤ length (entri
 
 -- ---- what is known of the entry before a position by the form that is met
 
-module _ (s : List ℕ) (v : dataValid s ≡ true) (key i : ℕ) (h : i ≤ length (entriesIn s)) (r : ℕ) (met : r ≡ formMet (downAt key i (entriesIn s))) (n : ℕ) (is : r ≡ n) (few : n < 3) where
+module _ (s : List ℕ) (v : dataValid s ≡ true) (key i : ℕ) (h : i ≤ length (entriesIn s)) (r : ℕ) (met : r ≡ formMet (downAt key i (entriesIn s))) (n : ℕ) (is : r ≡ n) (few : n < noForm) where
   pub met-pos : i ≡ 0 → ⊥
-  met-pos z = let e : 3 ≡ r = none-form key i (entriesIn s) z ∙ sym met in omega arith
+  met-pos z = let e : noForm ≡ r = none-form key i (entriesIn s) z ∙ sym met in omega arith
 
   met-same : getD s (slotWidth * (i - 1) + 1) 0 ≡ key
   met-same = go (ℕ-discrete (getD s (slotWidth * (i - 1) + 1) 0) key)
     where
       go : Dec (getD s (slotWidth * (i - 1) + 1) 0 ≡ key) → getD s (slotWidth * (i - 1) + 1) 0 ≡ key
       go (yes e) = e
-      go (no o) = absurd (let e : 3 ≡ r = other-form s i met-pos h key _ refl o ∙ sym met in omega arith)
+      go (no o) = absurd (let e : noForm ≡ r = other-form s i met-pos h key _ refl o ∙ sym met in omega arith)
 
   met-done : getD s (slotWidth * (i - 1) + 5) 0 ≡ 1 → ⊥
-  met-done f = let e : 3 ≡ r = estimate-form s i met-pos h key _ refl met-same _ refl v f ∙ sym met in omega arith
+  met-done f = let e : noForm ≡ r = estimate-form s i met-pos h key _ refl met-same _ refl v f ∙ sym met in omega arith
 
   pub met-form : getD s (slotWidth * (i - 1) + 4) 0 ≡ n
   met-form = done-form s i met-pos h key _ refl met-same _ refl v met-done _ refl ∙ sym met ∙ is
 
   -- a write: the read ends there
   pub read-write : n ≡ 0 → (place : ℕ) → place ≡ getD s (slotWidth * (i - 1) + 2) 0 → (shifted : ShiftedTxnIndex) → shifted ≡ shiftedOf place → (o : MVDataOutput) →
-      o ≡ outputOf (atWrite (exactly Empty) (wordOf shifted) (getD s (slotWidth * (i - 1) + 6) 0) (valueAt (slotWidth * (i - 1) + 7) s)) →
+      o ≡ outputOf (atWrite (exactly Empty) (wordOf shifted) (getD s (slotWidth * (i - 1) + 6) 0) (valueAt (slotWidth * (i - 1) + valueStart) s)) →
       o ≡ outputOf (readOf (downAt key i (entriesIn s)))
   unfolding readOf exactly
   read-write z place q shifted t o e = stop-write s i met-pos h key _ refl met-same _ refl Empty place q shifted t met-done _ refl (met-form ∙ z) o e
 
   -- a delta: the walk goes on
-  module _ (one : n ≡ 1) (acc : Accumulator) (op : DeltaOp) (told : op ≡ opAt (take 17 (drop (slotWidth * (i - 1) + 6) s))) (next : Accumulator) (e : next ≡ accumulatorOf (accumulate (exactly acc) (exact op))) where
+  module _ (one : n ≡ 1) (acc : Accumulator) (op : DeltaOp) (told : op ≡ opAt (take deltaWidth (drop (slotWidth * (i - 1) + deltaStart) s))) (next : Accumulator) (e : next ≡ accumulatorOf (accumulate (exactly acc) (exact op))) where
     next-is : exactly next ≡ accumulate (exactly acc) (exact op)
     next-is = ap exactly e ∙ exactly-accumulatorOf (accumulate (exactly acc) (exact op))
 
@@ -232,7 +231,7 @@ module _ (s : List ℕ) (v : dataValid s ≡ true) (key i : ℕ) (h : i ≤ leng
 
     pub deeper-walk : (o : MVDataOutput) → o ≡ outputOf (walk (exactly next) (downAt key (i - 1) (entriesIn s))) → o ≡ outputOf (walk (exactly acc) (downAt key i (entriesIn s)))
     deeper-walk o g =
-        let there : exact op ≡ deltaAt (take 17 (drop (slotWidth * (i - 1) + 6) s)) = ap exact told ∙ exact-opAt (take 17 (drop (slotWidth * (i - 1) + 6) s)) in
+        let there : exact op ≡ deltaAt (take deltaWidth (drop (slotWidth * (i - 1) + deltaStart) s)) = ap exact told ∙ exact-opAt (take deltaWidth (drop (slotWidth * (i - 1) + deltaStart) s)) in
         g
         ∙ ap outputOf
         (ap (λ (x : Accumulated). walk x (downAt key (i - 1) (entriesIn s))) (next-is ∙ ap (accumulate (exactly acc)) there)
@@ -241,30 +240,26 @@ module _ (s : List ℕ) (v : dataValid s ≡ true) (key i : ℕ) (h : i ≤ leng
 
 -- ---- the delta in a slot of a valid store is valid
 
-body-delta : (u : Slot) → bodyTest 1 u ≡ true → deltaOk (take 17 (drop 6 u)) ≡ true
+body-delta : (u : Slot) → bodyTest 1 u ≡ true → deltaOk (take deltaWidth (drop deltaStart u)) ≡ true
 unfolding bodyTest
 body-delta u b =
-    and-right (not (eqb (getD u 2 0) 0)) (deltaOk (take 17 (drop 6 u)))
-    (and-left (not (eqb (getD u 2 0) 0) && deltaOk (take 17 (drop 6 u))) (allZero (drop 23 u)) b)
+    and-right (not (eqb (getD u 2 0) 0)) (deltaOk (take deltaWidth (drop deltaStart u)))
+    (and-left (not (eqb (getD u 2 0) 0) && deltaOk (take deltaWidth (drop deltaStart u))) (allZero (drop deltaEnd u)) b)
 
 test-body : (u : Slot) → slotTest u ≡ true → bodyTest (getD u 4 0) u ≡ true
 unfolding slotTest
 test-body u t = and-right (eqb (getD u 0 0) 1 && eqb (getD u 3 0) 0 && leb (getD u 4 0) 2 && leb (getD u 5 0) 1) (bodyTest (getD u 4 0) u) t
 
-words-slot : (j : ℕ) (s : List ℕ) → AreWords s → AreWords (slotAt j s)
-unfolding slotAt
-words-slot j s g = words-take slotWidth (drop (slotWidth * j) s) (words-drop (slotWidth * j) s g)
-
 module _ (s : List ℕ) (v : dataValid s ≡ true) (j : ℕ) (h : j < length (entriesIn s)) where
   module _ (g : AreWords s) (form : ℕ) (m : form ≡ getD s (slotWidth * j + 4) 0) (e : form ≡ 1) where
-    delta-there : deltaOk (take 17 (drop (slotWidth * j + 6) s)) ≡ true
+    delta-there : deltaOk (take deltaWidth (drop (slotWidth * j + deltaStart) s)) ≡ true
     delta-there =
         let f : getD (slotAt j s) 4 0 ≡ 1 = slotAt-word j 4 s (omega arith) ∙ sym m ∙ e in
-        let t : slotTest (slotAt j s) ≡ true = sym (slotOk-test (slotAt j s) (length-slotAt j s (slot-inside j (length s) (at-few s j h))) (words-slot j s g)) ∙ slot-ok s v j h in
-        ap deltaOk (sym (slotAt-part j 6 17 s (omega arith)))
+        let t : slotTest (slotAt j s) ≡ true = sym (slotOk-at j s g (at-few s j h)) ∙ slot-ok s v j h in
+        ap deltaOk (sym (slotAt-part j deltaStart deltaWidth s (omega arith)))
         ∙ body-delta (slotAt j s) (ap (λ (n : ℕ). bodyTest n (slotAt j s)) (sym f) ∙ test-body (slotAt j s) t)
 
-    pub slot-delta : (op : DeltaOp) → op ≡ opAt (take 17 (drop (slotWidth * j + 6) s)) → validOp op ≡ true
+    pub slot-delta : (op : DeltaOp) → op ≡ opAt (take deltaWidth (drop (slotWidth * j + deltaStart) s)) → validOp op ≡ true
     slot-delta op r =
         ap validOp r
-        ∙ validOp-opAt (take 17 (drop (slotWidth * j + 6) s)) ∙ delta-there
+        ∙ validOp-opAt (take deltaWidth (drop (slotWidth * j + deltaStart) s)) ∙ delta-there

@@ -5,21 +5,22 @@ use mathlib.Core.Bool.{true, false}
 use mathlib.Core.List.{List, [], _∷_, _++_, map}
 use mathlib.Core.Option.{none}
 use Prim.Native.Nat.{ℕ}
+use Rattle.lists.specs.Lists.{every}
+use Rattle.lists.proofs.Bools.{and-both, and-left, and-right}
 use Rattle.delta.specs.Delta.{Delta, Accumulated, nothing, accumulate, accumulateAll}
 use Rattle.delta.specs.Op.{exact, opOf, exactly, accumulatorOf, validOp, validOps, foldRecords}
 use Rattle.delta.specs.declared.DeltaOp.{DeltaOp}
 use Rattle.delta.specs.declared.Accumulator.{Accumulator}
-use Rattle.delta.proofs.Ops.{exact-opOf, validOp-opOf, exactly-accumulatorOf}
-use Rattle.model.specs.Rows.{Row, every, downFrom}
+use Rattle.delta.proofs.DeltaOps.{exact-opOf, validOp-opOf, exactly-accumulatorOf}
+use Rattle.model.specs.Rows.{Row, downFrom}
 use Rattle.model.specs.Data
 use Rattle.model.specs.Data.{Entry, walk, atRow, atCell, past, readOf}
 use Rattle.model.specs.Fine.{fineEntry}
-use Rattle.model.proofs.FineData.{fine-downFrom}
-use Rattle.model.proofs.LawsOfDeltas.{run}
-use Rattle.model.proofs.Walk.{delta-valid, delta-delta, entry-cell}
-use Rattle.model.proofs.Lists.{and-left, and-right, and-both}
+use Rattle.model.proofs.FineEntries.{fine-downFrom}
+use Rattle.model.proofs.DeltaLaws.{run}
+use Rattle.model.proofs.FineParts.{delta-valid, delta-delta, entry-cell}
 use Rattle.versioned_data.specs.Layout.{entriesIn, dataValid}
-use Rattle.versioned_data.proofs.Holding.{fine-valid}
+use Rattle.versioned_data.proofs.EntriesHeld.{fine-valid}
 
 -- The records of a run, as a slice holds them.
 unfoldable pub recordsOf : List (Row Delta) → List DeltaOp

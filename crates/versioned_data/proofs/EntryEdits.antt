@@ -7,20 +7,20 @@ use mathlib.Core.Option.{none, some}
 use Prim.Native.Nat.{ℕ, _+_, _*_, _≤_, _<_}
 use native.Mathlib.Omega.{arith}
 use lib.ListN.{length, getD, set, length-map}
-use Rattle.store.specs.Slots
+use Rattle.lists.specs.Lists.{every}
+use Rattle.lists.proofs.Lists.{getD-map-lt, map-set}
+use Rattle.types.specs.Flag.{flagOf}
 use Rattle.store.specs.Slots.{Slot, slotWidth, slotsIn, encode, isWhole, opened, closed, written, padded}
 use Rattle.store.specs.Runs.{spliced}
-use Rattle.store.proofs.Lists.{map-set, getD-map-lt}
-use Rattle.store.proofs.Encode.{word-encode}
-use Rattle.store.proofs.Runs.{spliced-insert, map-spliced, encode-inserted, encode-removed}
-use Rattle.store.proofs.Edits.{written-encode, set-encode}
-use Rattle.model.specs.Rows.{find, put, erase}
+use Rattle.store.proofs.StoreEncoding.{word-encode}
+use Rattle.store.proofs.SlotSplices.{spliced-insert, map-spliced, encode-inserted, encode-removed}
+use Rattle.store.proofs.SlotEdits.{written-encode, set-encode}
+use Rattle.model.specs.Rows.{find, put, erase, rank, rowAt}
 use Rattle.model.specs.Data.{Cell, Entry}
-use Rattle.model.specs.Rows.{rank, rowAt}
-use Rattle.model.proofs.Places.{rank-le, rank-lt, getD-rank, put-absent, put-present, erase-present}
-use Rattle.versioned_data.specs.Layout.{flagOf, slotOf, entriesIn, holding, dataValid}
-use Rattle.versioned_data.proofs.Entries.{slots-whole}
-use Rattle.versioned_data.proofs.Holding.{holding-entries, rising-valid, every-valid, few-valid}
+use Rattle.model.proofs.RowPlaces.{rank-le, rank-lt, getD-rank, put-absent, put-present, erase-present}
+use Rattle.versioned_data.specs.Layout.{slotOf, entriesIn, holding, dataValid}
+use Rattle.versioned_data.proofs.EntrySlots.{slots-whole}
+use Rattle.versioned_data.proofs.EntriesHeld.{holding-entries, rising-valid, every-valid, few-valid}
 
 -- The flag is word 5 of a slot, and nothing else of an entry is in it.
 pub slot-estimate : (k p : ℕ) (c : Cell) (b : Bool) → set (slotOf (rowAt k p (record { cell = c; estimate = b }))) 5 1 ≡ slotOf (rowAt k p (record { cell = c; estimate = true }))
@@ -28,7 +28,7 @@ unfolding slotOf padded flagOf rowAt
 slot-estimate k p c b = refl
 
 module _ (s : List ℕ) (v : dataValid s ≡ true) (k p : ℕ) where
-  pub slots-valid : Slots.every isWhole (map slotOf (entriesIn s)) ≡ true
+  pub slots-valid : every isWhole (map slotOf (entriesIn s)) ≡ true
   slots-valid = slots-whole (entriesIn s) (every-valid s v)
 
   pub slots-few : length (map slotOf (entriesIn s)) ≤ slotsIn (length s)

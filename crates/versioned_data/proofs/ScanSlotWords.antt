@@ -4,44 +4,42 @@ use mathlib.Core.Path.{_≡_, refl, sym, _∙_, ap}
 use mathlib.Core.Bool.{Bool, true, false, cond, not, _&&_}
 use mathlib.Core.List.{List, [], _∷_, _++_, append-assoc}
 use mathlib.Core.Option.{none, some}
-use Prim.Native.Nat.{ℕ, zero, suc, _+_, _-_, _≤_, _<_, _^_}
+use Prim.Native.Nat.{ℕ, zero, suc, _+_, _-_, _*_, _≤_, _<_, _^_}
 use native.Mathlib.Omega.{arith}
 use lib.Dec.{leb, ltb, eqb}
 use lib.ListN.{length, take, drop, replicate, take-append-drop, length-drop, length-append}
 use borrow.Author.Tests.{ltb-true, leb-true, eqb-true, lt-ltb, lt-leb, eq-eqb, ne-eqb}
 use lib.Seq.{length-take-le, take-add, take-at, drop-at}
+use Rattle.lists.specs.Lists.{every}
+use Rattle.lists.proofs.Bools.{and-both, and-left, and-right, same-test}
 use Rattle.number.specs.Number.{range}
 use Rattle.number.specs.Words.{digits, valueOfWords, AreWords}
 use Rattle.number.proofs.Digits.{length-digits, words-take, words-drop, digits-value, four-below}
-use Rattle.delta.specs.Delta.{Delta, valid, deltaAt, deltaOk, deltaWords}
-use Rattle.delta.proofs.Format.{deltaWords-deltaAt, deltaAt-small, ok-valid, deltaOk-deltaWords, valid-small}
-use Rattle.types.specs.Value.{valueAt, valueOk, isExchanged}
-use Rattle.store.specs.Slots.{Slot, slotWidth, allZero, padded, sameWords}
-use Rattle.store.proofs.Lists.{same-test, allZero-told, allZero-replicate, same-words, words-same}
-use Rattle.model.specs.Rows.{Row, every}
+use Rattle.delta.specs.Delta.{deltaWidth, Delta, valid, deltaAt, deltaOk, deltaWords}
+use Rattle.delta.proofs.DeltaFormat.{length-deltaWords, deltaWords-deltaAt, deltaAt-small, ok-valid, deltaOk-deltaWords, valid-small}
+use Rattle.types.specs.Flag.{flagOf}
+use Rattle.types.proofs.FlagLaws.{flag-word, flag-small, flag-done}
+use Rattle.types.specs.Value.{valueWidth, valueAt, valueOk, isExchanged}
+use Rattle.store.specs.Slots.{Slot, slotWidth, slotsIn, slotAt, allZero, padded, sameWords}
+use Rattle.store.proofs.StoreWords.{slot-inside, length-slotAt}
+use Rattle.store.proofs.ZeroWords.{allZero-replicate, allZero-told, same-words, words-same}
+use Rattle.model.specs.Rows.{Row}
 use Rattle.model.specs.Data.{Cell, write, delta, Entry}
 use Rattle.model.specs.Fine.{isWord, isNumber, fineValue, fineDelta, fineShortcut, fineCell, fineEntry}
-use Rattle.model.proofs.Lists.{and-left, and-right, and-both}
-use Rattle.versioned_data.specs.Layout.{formOf, flagOf, bodyOf, slotOf, cellOf, entryOf, slotOk, bodyTest, slotTest}
-use Rattle.model.proofs.Walk.{words-every, value-length, value-ok, write-value, write-side, delta-place, delta-delta, entry-cell}
-use Rattle.versioned_data.proofs.Entries.{value-in, delta-words-length}
+use Rattle.versioned_data.specs.Layout.{formOf, bodyOf, slotOf, cellOf, entryOf, slotOk, bodyTest, slotTest}
+use Rattle.model.proofs.FineParts.{words-every, value-length, value-ok, write-value, write-side, delta-place, delta-delta, entry-cell}
+use Rattle.versioned_data.proofs.EntrySlots.{value-in}
 
-delta-ok-in : (d : Delta) (ys : List ℕ) → fineDelta d ≡ true → deltaOk (take 17 (deltaWords d ++ ys)) ≡ true
+delta-ok-in : (d : Delta) (ys : List ℕ) → fineDelta d ≡ true → deltaOk (take deltaWidth (deltaWords d ++ ys)) ≡ true
 unfolding fineDelta isNumber
 delta-ok-in d ys h =
-    ap deltaOk (take-at (deltaWords d) ys 17 (delta-words-length d))
+    ap deltaOk (take-at (deltaWords d) ys deltaWidth (length-deltaWords d))
     ∙ deltaOk-deltaWords d (and-right (ltb (d .limit) range) (valid d) h)
     (valid-small d (and-right (ltb (d .limit) range) (valid d) h) (ltb-true (d .limit) range (and-left (ltb (d .limit) range) (valid d) h)))
 
 -- A slot's six head words, and the rest.
 abbrev slot : ℕ → ℕ → ℕ → ℕ → ℕ → ℕ → List ℕ → Slot
 slot a b c d e f rest = a ∷ b ∷ c ∷ d ∷ e ∷ f ∷ rest
-
-flag-word : (f : ℕ) → f ≤ 1 → flagOf (eqb f 1) ≡ f
-unfolding flagOf
-flag-word zero h = refl
-flag-word (suc zero) h = refl
-flag-word (suc (suc f)) h = absurd (let g : 2 ≤ 1 = omega arith in omega arith)
 
 leb-three : (e : ℕ) → leb (suc (suc (suc e))) 2 ≡ false
 leb-three e = lt-leb (suc (suc (suc e))) 2 (omega arith)
@@ -58,33 +56,33 @@ length-part n ws m h = length-take-le n ws (omega arith)
 -- ---- a slot that passes is the slot of its entry
 
 module _ (b c f : ℕ) (small : f ≤ 1) where
-  write-again : (i : ℕ) (ws : List ℕ) → length ws ≡ 25 → allZero (drop 7 ws) ≡ true → slotOf (entryOf (slot 1 b c 0 0 f (i ∷ ws))) ≡ slot 1 b c 0 0 f (i ∷ ws)
+  write-again : (i : ℕ) (ws : List ℕ) → length ws ≡ 25 → allZero (drop valueWidth ws) ≡ true → slotOf (entryOf (slot 1 b c 0 0 f (i ∷ ws))) ≡ slot 1 b c 0 0 f (i ∷ ws)
   unfolding slotOf entryOf cellOf formOf bodyOf padded valueAt
   write-again i ws l z =
-      rw (flag-word f small, length-part 7 ws 18 l) (ap (λ (x : List ℕ). slot 1 b c 0 0 f (i ∷ x)) (zeros-after 7 18 ws l z))
+      rw (flag-word f small, length-part valueWidth ws (25 - valueWidth) l) (ap (λ (x : List ℕ). slot 1 b c 0 0 f (i ∷ x)) (zeros-after valueWidth (25 - valueWidth) ws l z))
 
-  module _ (ws : List ℕ) (l : length ws ≡ 26) (w : AreWords ws) (o : deltaOk (take 17 ws) ≡ true) where
-    words-again : deltaWords (deltaAt (take 17 ws)) ≡ take 17 ws
-    words-again = deltaWords-deltaAt (take 17 ws) (words-take 17 ws w) (length-part 17 ws 9 l) o
+  module _ (ws : List ℕ) (l : length ws ≡ 26) (w : AreWords ws) (o : deltaOk (take deltaWidth ws) ≡ true) where
+    words-again : deltaWords (deltaAt (take deltaWidth ws)) ≡ take deltaWidth ws
+    words-again = deltaWords-deltaAt (take deltaWidth ws) (words-take deltaWidth ws w) (length-part deltaWidth ws 9 l) o
 
-    delta-again : allZero (drop 17 ws) ≡ true → slotOf (entryOf (slot 1 b c 0 1 f ws)) ≡ slot 1 b c 0 1 f ws
+    delta-again : allZero (drop deltaWidth ws) ≡ true → slotOf (entryOf (slot 1 b c 0 1 f ws)) ≡ slot 1 b c 0 1 f ws
     unfolding slotOf entryOf cellOf formOf bodyOf padded
     delta-again z =
-        rw (flag-word f small, words-again, length-part 17 ws 9 l) (ap (λ (x : List ℕ). slot 1 b c 0 1 f x) (zeros-after 17 9 ws l z))
+        rw (flag-word f small, words-again, length-part deltaWidth ws 9 l) (ap (λ (x : List ℕ). slot 1 b c 0 1 f x) (zeros-after deltaWidth 9 ws l z))
 
-    number-again : digits 4 (valueOfWords (take 4 (drop 17 ws))) ≡ take 4 (drop 17 ws)
+    number-again : digits 4 (valueOfWords (take 4 (drop deltaWidth ws))) ≡ take 4 (drop deltaWidth ws)
     number-again =
-        let e : length (take 4 (drop 17 ws)) ≡ 4 = length-take-le 4 (drop 17 ws) (omega (arith, length-drop 17 ws)) in
-        ap (λ (k : ℕ). digits k (valueOfWords (take 4 (drop 17 ws)))) (sym e)
-        ∙ digits-value (take 4 (drop 17 ws)) (words-take 4 (drop 17 ws) (words-drop 17 ws w))
+        let e : length (take 4 (drop deltaWidth ws)) ≡ 4 = length-take-le 4 (drop deltaWidth ws) (omega (arith, length-drop deltaWidth ws)) in
+        ap (λ (k : ℕ). digits k (valueOfWords (take 4 (drop deltaWidth ws)))) (sym e)
+        ∙ digits-value (take 4 (drop deltaWidth ws)) (words-take 4 (drop deltaWidth ws) (words-drop deltaWidth ws w))
 
-    body-again : deltaWords (deltaAt (take 17 ws)) ++ digits 4 (valueOfWords (take 4 (drop 17 ws))) ≡ take 21 ws
-    body-again = rw (words-again, number-again) (sym (take-add 17 4 ws))
+    body-again : deltaWords (deltaAt (take deltaWidth ws)) ++ digits 4 (valueOfWords (take 4 (drop deltaWidth ws))) ≡ take (deltaWidth + 4) ws
+    body-again = rw (words-again, number-again) (sym (take-add deltaWidth 4 ws))
 
-    shortcut-again : allZero (drop 21 ws) ≡ true → slotOf (entryOf (slot 1 b c 0 2 f ws)) ≡ slot 1 b c 0 2 f ws
+    shortcut-again : allZero (drop (deltaWidth + 4) ws) ≡ true → slotOf (entryOf (slot 1 b c 0 2 f ws)) ≡ slot 1 b c 0 2 f ws
     unfolding slotOf entryOf cellOf formOf bodyOf padded
     shortcut-again z =
-        rw (flag-word f small, body-again, length-part 21 ws 5 l) (ap (λ (x : List ℕ). slot 1 b c 0 2 f x) (zeros-after 21 5 ws l z))
+        rw (flag-word f small, body-again, length-part (deltaWidth + 4) ws 5 l) (ap (λ (x : List ℕ). slot 1 b c 0 2 f x) (zeros-after (deltaWidth + 4) 5 ws l z))
 
 -- ---- and its entry is fine
 
@@ -100,17 +98,17 @@ base-rule c i f x h = go (eqb c 0) refl
         rw e (and-both (eqb i 0) (not (eqb f 1)) (and-left (eqb i 0) (eqb f 0) g) (not-flag f (and-right (eqb i 0) (eqb f 0) g)))
     go false e = let g : x ≡ true = rw e at h in rw e g
 
-value-fine : (ws : List ℕ) → length ws ≡ 25 → AreWords ws → valueOk (take 7 ws) ≡ true → fineValue (take 7 ws) ≡ true
+value-fine : (ws : List ℕ) → length ws ≡ 25 → AreWords ws → valueOk (take valueWidth ws) ≡ true → fineValue (take valueWidth ws) ≡ true
 unfolding fineValue
 value-fine ws l w o =
-    and-both (eqb (length (take 7 ws)) 7 && every isWord (take 7 ws)) (valueOk (take 7 ws))
-    (and-both (eqb (length (take 7 ws)) 7) (every isWord (take 7 ws)) (eq-eqb (length (take 7 ws)) 7 (length-part 7 ws 18 l)) (words-every (take 7 ws) (words-take 7 ws w))) o
+    and-both (eqb (length (take valueWidth ws)) valueWidth && every isWord (take valueWidth ws)) (valueOk (take valueWidth ws))
+    (and-both (eqb (length (take valueWidth ws)) valueWidth) (every isWord (take valueWidth ws)) (eq-eqb (length (take valueWidth ws)) valueWidth (length-part valueWidth ws (25 - valueWidth) l)) (words-every (take valueWidth ws) (words-take valueWidth ws w))) o
 
-delta-fine : (ws : List ℕ) → length ws ≡ 26 → AreWords ws → deltaOk (take 17 ws) ≡ true → fineDelta (deltaAt (take 17 ws)) ≡ true
+delta-fine : (ws : List ℕ) → length ws ≡ 26 → AreWords ws → deltaOk (take deltaWidth ws) ≡ true → fineDelta (deltaAt (take deltaWidth ws)) ≡ true
 unfolding fineDelta isNumber
 delta-fine ws l w o =
-    and-both (ltb (deltaAt (take 17 ws) .limit) range) (valid (deltaAt (take 17 ws)))
-    (lt-ltb (deltaAt (take 17 ws) .limit) range (deltaAt-small (take 17 ws) (words-take 17 ws w) (length-part 17 ws 9 l) .limit)) (ok-valid (take 17 ws) o)
+    and-both (ltb (deltaAt (take deltaWidth ws) .limit) range) (valid (deltaAt (take deltaWidth ws)))
+    (lt-ltb (deltaAt (take deltaWidth ws) .limit) range (deltaAt-small (take deltaWidth ws) (words-take deltaWidth ws w) (length-part deltaWidth ws 9 l) .limit)) (ok-valid (take deltaWidth ws) o)
 
 ok-again : (u : Slot) → fineEntry (entryOf u) ≡ true → slotOf (entryOf u) ≡ u → slotOk u ≡ true
 unfolding slotOk
@@ -127,55 +125,55 @@ module _ (b c f : ℕ) (wb : b < 2 ^ 32) (wc : c < 2 ^ 32) (small : f ≤ 1) whe
       and-both (isWord b && isWord c) (fineCell c (eqb f 1) cell) (and-both (isWord b) (isWord c) (word-is b wb) (word-is c wc)) h
 
   write-ok : (i : ℕ) (ws : List ℕ) → length ws ≡ 25 → i < 2 ^ 32 → AreWords ws →
-      (valueOk (take 7 ws) && cond (eqb c 0) (eqb i 0 && eqb f 0) (isExchanged (take 7 ws)) && allZero (drop 7 ws)) ≡ true →
+      (valueOk (take valueWidth ws) && cond (eqb c 0) (eqb i 0 && eqb f 0) (isExchanged (take valueWidth ws)) && allZero (drop valueWidth ws)) ≡ true →
       slotOk (slot 1 b c 0 0 f (i ∷ ws)) ≡ true
   unfolding entryOf cellOf valueAt fineCell
   write-ok i ws l wi w t =
       ok-again (slot 1 b c 0 0 f (i ∷ ws))
-      (fine-with (write i (take 7 ws))
-      (and-both (isWord i && fineValue (take 7 ws)) (cond (eqb c 0) (eqb i 0 && not (eqb f 1)) (isExchanged (take 7 ws)))
-      (and-both (isWord i) (fineValue (take 7 ws)) (word-is i wi) (value-fine ws l w (and-left (valueOk (take 7 ws)) rule first)))
-      (base-rule c i f (isExchanged (take 7 ws)) (and-right (valueOk (take 7 ws)) rule first))))
-      (write-again b c f small i ws l (and-right (valueOk (take 7 ws) && rule) (allZero (drop 7 ws)) t))
+      (fine-with (write i (take valueWidth ws))
+      (and-both (isWord i && fineValue (take valueWidth ws)) (cond (eqb c 0) (eqb i 0 && not (eqb f 1)) (isExchanged (take valueWidth ws)))
+      (and-both (isWord i) (fineValue (take valueWidth ws)) (word-is i wi) (value-fine ws l w (and-left (valueOk (take valueWidth ws)) rule first)))
+      (base-rule c i f (isExchanged (take valueWidth ws)) (and-right (valueOk (take valueWidth ws)) rule first))))
+      (write-again b c f small i ws l (and-right (valueOk (take valueWidth ws) && rule) (allZero (drop valueWidth ws)) t))
     where
       rule : Bool
-      rule = cond (eqb c 0) (eqb i 0 && eqb f 0) (isExchanged (take 7 ws))
+      rule = cond (eqb c 0) (eqb i 0 && eqb f 0) (isExchanged (take valueWidth ws))
 
-      first : (valueOk (take 7 ws) && rule) ≡ true
-      first = and-left (valueOk (take 7 ws) && rule) (allZero (drop 7 ws)) t
+      first : (valueOk (take valueWidth ws) && rule) ≡ true
+      first = and-left (valueOk (take valueWidth ws) && rule) (allZero (drop valueWidth ws)) t
 
   module _ (ws : List ℕ) (l : length ws ≡ 26) (w : AreWords ws) where
-    delta-ok : (not (eqb c 0) && deltaOk (take 17 ws) && allZero (drop 17 ws)) ≡ true → slotOk (slot 1 b c 0 1 f ws) ≡ true
+    delta-ok : (not (eqb c 0) && deltaOk (take deltaWidth ws) && allZero (drop deltaWidth ws)) ≡ true → slotOk (slot 1 b c 0 1 f ws) ≡ true
     unfolding entryOf cellOf fineCell fineShortcut
     delta-ok t =
         ok-again (slot 1 b c 0 1 f ws)
-        (fine-with (delta (deltaAt (take 17 ws)) none)
-        (and-both (not (eqb c 0) && fineDelta (deltaAt (take 17 ws))) true
-        (and-both (not (eqb c 0)) (fineDelta (deltaAt (take 17 ws))) (and-left (not (eqb c 0)) (deltaOk (take 17 ws)) first) (delta-fine ws l w ok)) refl))
-        (delta-again b c f small ws l w ok (and-right (not (eqb c 0) && deltaOk (take 17 ws)) (allZero (drop 17 ws)) t))
+        (fine-with (delta (deltaAt (take deltaWidth ws)) none)
+        (and-both (not (eqb c 0) && fineDelta (deltaAt (take deltaWidth ws))) true
+        (and-both (not (eqb c 0)) (fineDelta (deltaAt (take deltaWidth ws))) (and-left (not (eqb c 0)) (deltaOk (take deltaWidth ws)) first) (delta-fine ws l w ok)) refl))
+        (delta-again b c f small ws l w ok (and-right (not (eqb c 0) && deltaOk (take deltaWidth ws)) (allZero (drop deltaWidth ws)) t))
       where
-        first : (not (eqb c 0) && deltaOk (take 17 ws)) ≡ true
-        first = and-left (not (eqb c 0) && deltaOk (take 17 ws)) (allZero (drop 17 ws)) t
+        first : (not (eqb c 0) && deltaOk (take deltaWidth ws)) ≡ true
+        first = and-left (not (eqb c 0) && deltaOk (take deltaWidth ws)) (allZero (drop deltaWidth ws)) t
 
-        ok : deltaOk (take 17 ws) ≡ true
-        ok = and-right (not (eqb c 0)) (deltaOk (take 17 ws)) first
+        ok : deltaOk (take deltaWidth ws) ≡ true
+        ok = and-right (not (eqb c 0)) (deltaOk (take deltaWidth ws)) first
 
-    shortcut-ok : (not (eqb c 0) && deltaOk (take 17 ws) && allZero (drop 21 ws)) ≡ true → slotOk (slot 1 b c 0 2 f ws) ≡ true
+    shortcut-ok : (not (eqb c 0) && deltaOk (take deltaWidth ws) && allZero (drop (deltaWidth + 4) ws)) ≡ true → slotOk (slot 1 b c 0 2 f ws) ≡ true
     unfolding entryOf cellOf fineCell fineShortcut isNumber
     shortcut-ok t =
         ok-again (slot 1 b c 0 2 f ws)
-        (fine-with (delta (deltaAt (take 17 ws)) (some (valueOfWords (take 4 (drop 17 ws)))))
-        (and-both (not (eqb c 0) && fineDelta (deltaAt (take 17 ws))) (ltb (valueOfWords (take 4 (drop 17 ws))) range)
-        (and-both (not (eqb c 0)) (fineDelta (deltaAt (take 17 ws))) (and-left (not (eqb c 0)) (deltaOk (take 17 ws)) first) (delta-fine ws l w ok))
-        (lt-ltb (valueOfWords (take 4 (drop 17 ws))) range
-        (four-below (take 4 (drop 17 ws)) (words-take 4 (drop 17 ws) (words-drop 17 ws w)) (length-take-le 4 (drop 17 ws) (omega (arith, length-drop 17 ws)))))))
-        (shortcut-again b c f small ws l w ok (and-right (not (eqb c 0) && deltaOk (take 17 ws)) (allZero (drop 21 ws)) t))
+        (fine-with (delta (deltaAt (take deltaWidth ws)) (some (valueOfWords (take 4 (drop deltaWidth ws)))))
+        (and-both (not (eqb c 0) && fineDelta (deltaAt (take deltaWidth ws))) (ltb (valueOfWords (take 4 (drop deltaWidth ws))) range)
+        (and-both (not (eqb c 0)) (fineDelta (deltaAt (take deltaWidth ws))) (and-left (not (eqb c 0)) (deltaOk (take deltaWidth ws)) first) (delta-fine ws l w ok))
+        (lt-ltb (valueOfWords (take 4 (drop deltaWidth ws))) range
+        (four-below (take 4 (drop deltaWidth ws)) (words-take 4 (drop deltaWidth ws) (words-drop deltaWidth ws w)) (length-take-le 4 (drop deltaWidth ws) (omega (arith, length-drop deltaWidth ws)))))))
+        (shortcut-again b c f small ws l w ok (and-right (not (eqb c 0) && deltaOk (take deltaWidth ws)) (allZero (drop (deltaWidth + 4) ws)) t))
       where
-        first : (not (eqb c 0) && deltaOk (take 17 ws)) ≡ true
-        first = and-left (not (eqb c 0) && deltaOk (take 17 ws)) (allZero (drop 21 ws)) t
+        first : (not (eqb c 0) && deltaOk (take deltaWidth ws)) ≡ true
+        first = and-left (not (eqb c 0) && deltaOk (take deltaWidth ws)) (allZero (drop (deltaWidth + 4) ws)) t
 
-        ok : deltaOk (take 17 ws) ≡ true
-        ok = and-right (not (eqb c 0)) (deltaOk (take 17 ws)) first
+        ok : deltaOk (take deltaWidth ws) ≡ true
+        ok = and-right (not (eqb c 0)) (deltaOk (take deltaWidth ws)) first
 
   body-ok : (e : ℕ) (ws : List ℕ) → length ws ≡ 26 → AreWords ws → leb e 2 ≡ true → bodyTest e (slot 1 b c 0 e f ws) ≡ true → slotOk (slot 1 b c 0 e f ws) ≡ true
   unfolding bodyTest valueAt
@@ -208,16 +206,6 @@ test-ok a b c d e f ws l w t =
 
 -- ---- the slot of a fine entry passes
 
-flag-small : (q : Bool) → leb (flagOf q) 1 ≡ true
-unfolding flagOf
-flag-small true = refl
-flag-small false = refl
-
-flag-done : (q : Bool) → not q ≡ true → eqb (flagOf q) 0 ≡ true
-unfolding flagOf
-flag-done true h = absurd (let y : _≡_ {A = ℕ} 0 1 = cc in omega arith)
-flag-done false h = refl
-
 base-kept : (c i : ℕ) (q x : Bool) → cond (eqb c 0) (eqb i 0 && not q) x ≡ true → cond (eqb c 0) (eqb i 0 && eqb (flagOf q) 0) x ≡ true
 base-kept c i q x h = go (eqb c 0) refl
   where
@@ -234,27 +222,27 @@ module _ (place : ℕ) (q : Bool) where
   body-passes : (key : ℕ) (c : Cell) → fineCell place q c ≡ true → bodyTest (formOf c) (padded (1 ∷ key ∷ place ∷ 0 ∷ formOf c ∷ flagOf q ∷ bodyOf c)) ≡ true
   unfolding bodyTest formOf bodyOf padded valueAt
   body-passes key (write i v) h =
-      and-both (valueOk (take 7 (v ++ zs)) && cond (eqb place 0) (eqb i 0 && eqb (flagOf q) 0) (isExchanged (take 7 (v ++ zs)))) (allZero (drop 7 (v ++ zs)))
+      and-both (valueOk (take valueWidth (v ++ zs)) && cond (eqb place 0) (eqb i 0 && eqb (flagOf q) 0) (isExchanged (take valueWidth (v ++ zs)))) (allZero (drop valueWidth (v ++ zs)))
       (rw (value-in place q zs i v h)
       (and-both (valueOk v) (cond (eqb place 0) (eqb i 0 && eqb (flagOf q) 0) (isExchanged v)) (value-ok v (write-value place q i v h))
       (base-kept place i q (isExchanged v) (write-side place q i v h))))
-      (zeros-drop 7 v (slotWidth - suc (suc (suc (suc (suc (suc (length (i ∷ v)))))))) (value-length v (write-value place q i v h)))
+      (zeros-drop valueWidth v (slotWidth - suc (suc (suc (suc (suc (suc (length (i ∷ v)))))))) (value-length v (write-value place q i v h)))
     where
       zs : List ℕ
       zs = replicate (slotWidth - suc (suc (suc (suc (suc (suc (length (i ∷ v)))))))) 0
   body-passes key (delta d none) h =
-      and-both (not (eqb place 0) && deltaOk (take 17 (deltaWords d ++ zs))) (allZero (drop 17 (deltaWords d ++ zs)))
-      (and-both (not (eqb place 0)) (deltaOk (take 17 (deltaWords d ++ zs))) (delta-place place q d none h) (delta-ok-in d zs (delta-delta place q d none h)))
-      (zeros-drop 17 (deltaWords d) (slotWidth - suc (suc (suc (suc (suc (suc (length (deltaWords d)))))))) (delta-words-length d))
+      and-both (not (eqb place 0) && deltaOk (take deltaWidth (deltaWords d ++ zs))) (allZero (drop deltaWidth (deltaWords d ++ zs)))
+      (and-both (not (eqb place 0)) (deltaOk (take deltaWidth (deltaWords d ++ zs))) (delta-place place q d none h) (delta-ok-in d zs (delta-delta place q d none h)))
+      (zeros-drop deltaWidth (deltaWords d) (slotWidth - suc (suc (suc (suc (suc (suc (length (deltaWords d)))))))) (length-deltaWords d))
     where
       zs : List ℕ
       zs = replicate (slotWidth - suc (suc (suc (suc (suc (suc (length (deltaWords d)))))))) 0
   body-passes key (delta d (some n)) h =
-      and-both (not (eqb place 0) && deltaOk (take 17 (deltaWords d ++ digits 4 n ++ zs))) (allZero (drop 21 (deltaWords d ++ digits 4 n ++ zs)))
-      (and-both (not (eqb place 0)) (deltaOk (take 17 (deltaWords d ++ digits 4 n ++ zs))) (delta-place place q d (some n) h)
-      (ap (λ (l : List ℕ). deltaOk (take 17 l)) (append-assoc (deltaWords d) (digits 4 n) zs) ∙ delta-ok-in d (digits 4 n ++ zs) (delta-delta place q d (some n) h)))
-      (zeros-drop 21 (deltaWords d ++ digits 4 n) (slotWidth - suc (suc (suc (suc (suc (suc (length (deltaWords d ++ digits 4 n))))))))
-      (omega (arith, length-append (deltaWords d) (digits 4 n), delta-words-length d, length-digits 4 n)))
+      and-both (not (eqb place 0) && deltaOk (take deltaWidth (deltaWords d ++ digits 4 n ++ zs))) (allZero (drop (deltaWidth + 4) (deltaWords d ++ digits 4 n ++ zs)))
+      (and-both (not (eqb place 0)) (deltaOk (take deltaWidth (deltaWords d ++ digits 4 n ++ zs))) (delta-place place q d (some n) h)
+      (ap (λ (l : List ℕ). deltaOk (take deltaWidth l)) (append-assoc (deltaWords d) (digits 4 n) zs) ∙ delta-ok-in d (digits 4 n ++ zs) (delta-delta place q d (some n) h)))
+      (zeros-drop (deltaWidth + 4) (deltaWords d ++ digits 4 n) (slotWidth - suc (suc (suc (suc (suc (suc (length (deltaWords d ++ digits 4 n))))))))
+      (omega (arith, length-append (deltaWords d) (digits 4 n), length-deltaWords d, length-digits 4 n)))
     where
       zs : List ℕ
       zs = replicate (slotWidth - suc (suc (suc (suc (suc (suc (length (deltaWords d ++ digits 4 n)))))))) 0
@@ -281,7 +269,7 @@ shape (a ∷ b ∷ c ∷ d ∷ []) l w t = absurd (let z : _≡_ {A = ℕ} 4 32 
 shape (a ∷ b ∷ c ∷ d ∷ e ∷ []) l w t = absurd (let z : _≡_ {A = ℕ} 5 32 = l in omega arith)
 shape (a ∷ b ∷ c ∷ d ∷ e ∷ f ∷ ws) l w t = test-ok a b c d e f ws (omega arith) w t
 
-pub slotOk-test : (u : Slot) → length u ≡ slotWidth → AreWords u → slotOk u ≡ slotTest u
+slotOk-test : (u : Slot) → length u ≡ slotWidth → AreWords u → slotOk u ≡ slotTest u
 unfolding slotOk
 slotOk-test u l w = same-test (slotOk u) (slotTest u) told (shape u l w)
   where
@@ -289,3 +277,11 @@ slotOk-test u l w = same-test (slotOk u) (slotTest u) told (shape u l w)
     told h =
         rw (same-words (slotOf (entryOf u)) u (and-right (fineEntry (entryOf u)) (sameWords (slotOf (entryOf u)) u) h)) at
         (slot-tests (entryOf u) (and-left (fineEntry (entryOf u)) (sameWords (slotOf (entryOf u)) u) h))
+
+-- the same of a slot of a store's words
+words-slot : (j : ℕ) (s : List ℕ) → AreWords s → AreWords (slotAt j s)
+unfolding slotAt
+words-slot j s g = words-take slotWidth (drop (slotWidth * j) s) (words-drop (slotWidth * j) s g)
+
+pub slotOk-at : (j : ℕ) (s : List ℕ) → AreWords s → j < slotsIn (length s) → slotOk (slotAt j s) ≡ slotTest (slotAt j s)
+slotOk-at j s g h = slotOk-test (slotAt j s) (length-slotAt j s (slot-inside j (length s) h)) (words-slot j s g)

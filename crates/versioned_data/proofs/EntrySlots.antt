@@ -10,51 +10,50 @@ use lib.Dec.{ltb, eqb}
 use lib.ListN.{length, take, drop, replicate, length-append}
 use lib.Seq.{take-at, drop-at}
 use borrow.Author.Tests.{ltb-true, eqb-true, eqb-false, eq-eqb, ne-eqb}
+use Rattle.lists.specs.Lists.{every}
+use Rattle.lists.proofs.Bools.{and-both, and-left, and-right}
 use Rattle.number.specs.Number.{range}
 use Rattle.number.specs.Words.{digits, valueOfWords}
 use Rattle.number.proofs.Digits.{length-digits, value-four}
-use Rattle.delta.specs.Delta.{Delta, valid, deltaAt, deltaWords}
-use Rattle.delta.proofs.Format.{length-deltaWords, valid-small, deltaAt-deltaWords}
+use Rattle.delta.specs.Delta.{deltaWidth, Delta, valid, deltaAt, deltaWords}
+use Rattle.delta.proofs.DeltaFormat.{length-deltaWords, valid-small, deltaAt-deltaWords}
+use Rattle.types.specs.Flag.{flagOf}
+use Rattle.types.proofs.FlagLaws.{flag-back}
 use Rattle.types.specs.Value.{valueAt, valueWidth}
-use Rattle.store.specs.Slots
 use Rattle.store.specs.Slots.{slotWidth, isWhole, isUsed, before, isBefore, ordered, padded}
-use Rattle.store.proofs.Words.{padded-whole}
-use Rattle.model.specs.Rows.{Row, every, rising, isBelow, isAbove}
+use Rattle.store.proofs.StoreWords.{padded-whole}
+use Rattle.model.specs.Rows.{Row, rising, isBelow, isAbove}
 use Rattle.model.specs.Data.{Cell, write, delta, Entry}
 use Rattle.model.specs.Fine.{isNumber, fineDelta, fineShortcut, fineCell, fineEntry}
-use Rattle.model.proofs.Walk.{value-length, write-value, delta-delta, delta-shortcut, entry-cell}
-use Rattle.model.proofs.Lists.{and-left, and-right, and-both}
-use Rattle.versioned_data.specs.Layout.{formOf, flagOf, bodyOf, slotOf, cellOf, entryOf}
+use Rattle.model.proofs.FineParts.{value-length, write-value, delta-delta, delta-shortcut, entry-cell}
+use Rattle.versioned_data.specs.Layout.{formOf, bodyOf, slotOf, cellOf, entryOf}
 
-pub delta-words-back : (d : Delta) → fineDelta d ≡ true → deltaAt (deltaWords d) ≡ d
+delta-words-back : (d : Delta) → fineDelta d ≡ true → deltaAt (deltaWords d) ≡ d
 unfolding fineDelta isNumber
 delta-words-back d h =
     deltaAt-deltaWords d
     (valid-small d (and-right (ltb (d .limit) range) (valid d) h) (ltb-true (d .limit) range (and-left (ltb (d .limit) range) (valid d) h)))
 
-pub delta-words-length : (d : Delta) → length (deltaWords d) ≡ 17
-delta-words-length d = length-deltaWords d
-
 -- A slot has 32 words: the head's six, the body's 8, 17 or 21, and zeros.
-pub body-length : (place : ℕ) (estimate : Bool) (c : Cell) → fineCell place estimate c ≡ true → length (bodyOf c) ≤ 26
+body-length : (place : ℕ) (estimate : Bool) (c : Cell) → fineCell place estimate c ≡ true → length (bodyOf c) ≤ 26
 unfolding bodyOf
 body-length place estimate (write i v) h = omega (arith, value-length v (write-value place estimate i v h))
-body-length place estimate (delta d none) h = omega (arith, delta-words-length d)
+body-length place estimate (delta d none) h = omega (arith, length-deltaWords d)
 body-length place estimate (delta d (some n)) h =
-    omega (arith, length-append (deltaWords d) (digits 4 n), delta-words-length d, length-digits 4 n)
+    omega (arith, length-append (deltaWords d) (digits 4 n), length-deltaWords d, length-digits 4 n)
 
-pub slot-whole : (r : Row Entry) → fineEntry r ≡ true → isWhole (slotOf r) ≡ true
+slot-whole : (r : Row Entry) → fineEntry r ≡ true → isWhole (slotOf r) ≡ true
 unfolding isWhole slotOf
 slot-whole r h =
     eq-eqb (length (slotOf r)) slotWidth
     (padded-whole (1 ∷ r .key ∷ r .place ∷ 0 ∷ formOf (r .held .cell) ∷ flagOf (r .held .estimate) ∷ bodyOf (r .held .cell))
     (omega (arith, body-length (r .place) (r .held .estimate) (r .held .cell) (entry-cell r h))))
 
-pub slot-used : (r : Row Entry) → isUsed (slotOf r) ≡ true
+slot-used : (r : Row Entry) → isUsed (slotOf r) ≡ true
 unfolding isUsed slotOf padded
 slot-used r = refl
 
-pub slot-place : (r : Row Entry) → take 4 (slotOf r) ≡ 1 ∷ r .key ∷ r .place ∷ 0 ∷ []
+slot-place : (r : Row Entry) → take 4 (slotOf r) ≡ 1 ∷ r .key ∷ r .place ∷ 0 ∷ []
 unfolding slotOf padded
 slot-place r = refl
 
@@ -75,32 +74,27 @@ eqb-swap a b = go (eqb a b) refl
     go true e = e ∙ sym (eq-eqb b a (sym (eqb-true a b e)))
     go false e = e ∙ sym (ne-eqb b a (λ f. eqb-false a b e (sym f)))
 
-pub slot-above : (r q : Row Entry) → isBefore (slotOf r) (slotOf q) ≡ isAbove (r .key) (r .place) q
+slot-above : (r q : Row Entry) → isBefore (slotOf r) (slotOf q) ≡ isAbove (r .key) (r .place) q
 unfolding isBefore isAbove before
 slot-above r q =
     rw (slot-place r, slot-place q, or-nothing (ltb (r .place) (q .place)) (eqb (r .place) (q .place)), eqb-swap (r .key) (q .key))
 
 -- An entry is read back from its slot.
-estimate-back : (b : Bool) → eqb (flagOf b) 1 ≡ b
-unfolding flagOf
-estimate-back true = refl
-estimate-back false = refl
-
 module _ (place : ℕ) (estimate : Bool) (zs : List ℕ) where
   -- the parts of a body, whatever follows it
   pub value-in : (i : ℕ) (v : List ℕ) → fineCell place estimate (write i v) ≡ true → take valueWidth (v ++ zs) ≡ v
   value-in i v f = take-at v zs valueWidth (value-length v (write-value place estimate i v f))
 
-  pub delta-in : (d : Delta) → fineDelta d ≡ true → (ys : List ℕ) → deltaAt (take 17 (deltaWords d ++ ys)) ≡ d
-  delta-in d f ys = ap deltaAt (take-at (deltaWords d) ys 17 (delta-words-length d)) ∙ delta-words-back d f
+  delta-in : (d : Delta) → fineDelta d ≡ true → (ys : List ℕ) → deltaAt (take deltaWidth (deltaWords d ++ ys)) ≡ d
+  delta-in d f ys = ap deltaAt (take-at (deltaWords d) ys deltaWidth (length-deltaWords d)) ∙ delta-words-back d f
 
-  pub shortcut-in : (d : Delta) (n : ℕ) → isNumber n ≡ true → valueOfWords (take 4 (drop 17 (deltaWords d ++ digits 4 n ++ zs))) ≡ n
+  shortcut-in : (d : Delta) (n : ℕ) → isNumber n ≡ true → valueOfWords (take 4 (drop deltaWidth (deltaWords d ++ digits 4 n ++ zs))) ≡ n
   unfolding isNumber
   shortcut-in d n f =
-      rw (append-assoc (deltaWords d) (digits 4 n) zs, drop-at (deltaWords d) (digits 4 n ++ zs) 17 (delta-words-length d), take-at (digits 4 n) zs 4 (length-digits 4 n))
+      rw (append-assoc (deltaWords d) (digits 4 n) zs, drop-at (deltaWords d) (digits 4 n ++ zs) deltaWidth (length-deltaWords d), take-at (digits 4 n) zs 4 (length-digits 4 n))
       (value-four n (ltb-true n range f))
 
-pub cell-back : (place key : ℕ) (estimate : Bool) (c : Cell) → fineCell place estimate c ≡ true →
+cell-back : (place key : ℕ) (estimate : Bool) (c : Cell) → fineCell place estimate c ≡ true →
     cellOf (formOf c) (padded (1 ∷ key ∷ place ∷ 0 ∷ formOf c ∷ flagOf estimate ∷ bodyOf c)) ≡ c
 unfolding padded cellOf formOf bodyOf valueAt fineShortcut
 cell-back place key estimate (write i v) f =
@@ -110,7 +104,7 @@ cell-back place key estimate (delta d none) f =
     (delta-in place estimate [] d (delta-delta place estimate d none f) (replicate (slotWidth - suc (suc (suc (suc (suc (suc (length (deltaWords d)))))))) 0))
 cell-back place key estimate (delta d (some n)) f =
     ap₂ (λ (x : Delta) (m : ℕ). delta x (some m))
-    (ap (λ (l : List ℕ). deltaAt (take 17 l)) (append-assoc (deltaWords d) (digits 4 n) zs)
+    (ap (λ (l : List ℕ). deltaAt (take deltaWidth l)) (append-assoc (deltaWords d) (digits 4 n) zs)
     ∙ delta-in place estimate zs d (delta-delta place estimate d (some n) f) (digits 4 n ++ zs))
     (shortcut-in place estimate zs d n (delta-shortcut place estimate d (some n) f))
   where
@@ -123,21 +117,21 @@ entry-back r h i =
     record {
       key = r .key;
       place = r .place;
-      held = record { cell = cell-back (r .place) (r .key) (r .held .estimate) (r .held .cell) (entry-cell r h) i; estimate = estimate-back (r .held .estimate) i };
+      held = record { cell = cell-back (r .place) (r .key) (r .held .estimate) (r .held .cell) (entry-cell r h) i; estimate = flag-back (r .held .estimate) i };
     }
 
 -- Lists of entries and their slots.
-pub slots-whole : (rs : List (Row Entry)) → every fineEntry rs ≡ true → Slots.every isWhole (map slotOf rs) ≡ true
-unfolding every Slots.every
+pub slots-whole : (rs : List (Row Entry)) → every fineEntry rs ≡ true → every isWhole (map slotOf rs) ≡ true
+unfolding every
 slots-whole [] h = refl
 slots-whole (r ∷ rs) h =
-    and-both (isWhole (slotOf r)) (Slots.every isWhole (map slotOf rs)) (slot-whole r (and-left (fineEntry r) (every fineEntry rs) h))
+    and-both (isWhole (slotOf r)) (every isWhole (map slotOf rs)) (slot-whole r (and-left (fineEntry r) (every fineEntry rs) h))
     (slots-whole rs (and-right (fineEntry r) (every fineEntry rs) h))
 
-pub slots-used : (rs : List (Row Entry)) → Slots.every isUsed (map slotOf rs) ≡ true
-unfolding Slots.every
+pub slots-used : (rs : List (Row Entry)) → every isUsed (map slotOf rs) ≡ true
+unfolding every
 slots-used [] = refl
-slots-used (r ∷ rs) = and-both (isUsed (slotOf r)) (Slots.every isUsed (map slotOf rs)) (slot-used r) (slots-used rs)
+slots-used (r ∷ rs) = and-both (isUsed (slotOf r)) (every isUsed (map slotOf rs)) (slot-used r) (slots-used rs)
 
 pub entries-back : (rs : List (Row Entry)) → every fineEntry rs ≡ true → map entryOf (map slotOf rs) ≡ rs
 unfolding every
@@ -146,8 +140,8 @@ entries-back (r ∷ rs) h =
     ap₂ (λ (x : Row Entry) (l : List (Row Entry)). x ∷ l) (entry-back r (and-left (fineEntry r) (every fineEntry rs) h))
     (entries-back rs (and-right (fineEntry r) (every fineEntry rs) h))
 
-slots-above : (r : Row Entry) (rs : List (Row Entry)) → Slots.every (isBefore (slotOf r)) (map slotOf rs) ≡ every (isAbove (r .key) (r .place)) rs
-unfolding every Slots.every
+slots-above : (r : Row Entry) (rs : List (Row Entry)) → every (isBefore (slotOf r)) (map slotOf rs) ≡ every (isAbove (r .key) (r .place)) rs
+unfolding every
 slots-above r [] = refl
 slots-above r (q ∷ rs) = rw (slot-above r q, slots-above r rs)
 

@@ -9,24 +9,26 @@ use native.Mathlib.Omega.{arith}
 use lib.Dec.{ltb, eqb}
 use lib.ListN.{length, getD}
 use lib.Seq.{ext-getD, getD-append-add}
+use Rattle.lists.specs.Lists.{every}
+use Rattle.lists.proofs.Bools.{and-left, and-right}
+use Rattle.lists.proofs.Lists.{every-keep}
 use Rattle.delta.specs.Delta.{Delta}
+use Rattle.types.specs.Flag.{flagOf}
 use Rattle.types.specs.Value.{valueAt, valueWidth, isExchanged, sameBytes}
-use Rattle.types.proofs.Values.{length-valueAt, getD-valueAt}
+use Rattle.types.proofs.ValueLaws.{length-valueAt, getD-valueAt}
 use Rattle.store.specs.Slots.{slotWidth, padded}
 use Rattle.store.specs.Found.{foundOf}
-use Rattle.store.proofs.Words.{slot-inside, getD-padded}
-use Rattle.model.specs.Rows.{every, isAt, find}
+use Rattle.store.proofs.StoreWords.{slot-inside, getD-padded}
+use Rattle.model.specs.Rows.{isAt, find, rank, rowAt}
 use Rattle.model.specs.Data.{Cell, write, delta, Entry, sameExchanged, unlessDiffers, baseOver, baseOnto, setBaseValue, yields, mayWrite}
 use Rattle.model.specs.Fine.{fineCell, fineEntry, isWord}
-use Rattle.model.proofs.Lists.{and-left, and-right, every-keep}
-use Rattle.model.specs.Rows.{rank, rowAt}
-use Rattle.model.proofs.Places.{at-present}
-use Rattle.versioned_data.specs.Layout.{formOf, flagOf, bodyOf, slotOf, entriesIn, dataValid}
+use Rattle.model.proofs.RowPlaces.{at-present}
+use Rattle.versioned_data.specs.Layout.{valueStart, formOf, bodyOf, slotOf, entriesIn, dataValid}
 use Rattle.versioned_data.specs.Found.{foundIn, mayPut}
 use Rattle.versioned_data.specs.Base.{keptIf, overBase, baseAt, baseRuling}
-use Rattle.model.proofs.Walk.{write-value, value-length}
-use Rattle.versioned_data.proofs.Holding.{rising-valid, every-valid}
-use Rattle.versioned_data.proofs.Edits.{place-inside, word-valid}
+use Rattle.model.proofs.FineParts.{write-value, value-length}
+use Rattle.versioned_data.proofs.EntriesHeld.{rising-valid, every-valid}
+use Rattle.versioned_data.proofs.EntryEdits.{place-inside, word-valid}
 
 pub slot-form : (k p : ℕ) (b : Entry) → getD (slotOf (rowAt k p b)) 4 0 ≡ formOf (b .cell)
 unfolding slotOf padded rowAt
@@ -56,7 +58,7 @@ module _ (s : List ℕ) (v : dataValid s ≡ true) (k p : ℕ) where
           (over-form k p incarnation b (b .cell) refl)
 
   -- the entry there keeps rule 5
-  pub fine-there : (b : Entry) → find k p (entriesIn s) ≡ some b → fineCell p (b .estimate) (b .cell) ≡ true
+  fine-there : (b : Entry) → find k p (entriesIn s) ≡ some b → fineCell p (b .estimate) (b .cell) ≡ true
   unfolding every fineEntry rowAt
   fine-there b e =
       let all : every fineEntry (rowAt k p b ∷ []) ≡ true =
@@ -72,15 +74,15 @@ slot-value k p i w b j e h =
     rw e (getD-padded (head ++ w) (7 + j) (omega arith) ∙ getD-append-add head w j 0)
 
 module _ (s : List ℕ) (v : dataValid s ≡ true) (k p : ℕ) (b : Entry) (e : find k p (entriesIn s) ≡ some b) where
-  pub value-valid : (i : ℕ) (w : List ℕ) → b .cell ≡ write i w → valueAt (slotWidth * rank k p (entriesIn s) + 7) s ≡ w
+  value-valid : (i : ℕ) (w : List ℕ) → b .cell ≡ write i w → valueAt (slotWidth * rank k p (entriesIn s) + valueStart) s ≡ w
   value-valid i w f =
       let seven : length w ≡ valueWidth = value-length w (write-value p (b .estimate) i w (rw f at (fine-there s v k p b e))) in
       let inside : slotWidth * rank k p (entriesIn s) + slotWidth ≤ length s = slot-inside (rank k p (entriesIn s)) (length s) (place-inside s v k p b e) in
-      let size : length (valueAt (slotWidth * rank k p (entriesIn s) + 7) s) ≡ valueWidth = length-valueAt s (slotWidth * rank k p (entriesIn s) + 7) (omega arith) in
-      ext-getD 0 (valueAt (slotWidth * rank k p (entriesIn s) + 7) s) w (size ∙ sym seven)
+      let size : length (valueAt (slotWidth * rank k p (entriesIn s) + valueStart) s) ≡ valueWidth = length-valueAt s (slotWidth * rank k p (entriesIn s) + 7) (omega arith) in
+      ext-getD 0 (valueAt (slotWidth * rank k p (entriesIn s) + valueStart) s) w (size ∙ sym seven)
       (λ j h. at j (omega arith) (omega arith))
     where
-      at : (j : ℕ) → j < valueWidth → j < length w → getD (valueAt (slotWidth * rank k p (entriesIn s) + 7) s) j 0 ≡ getD w j 0
+      at : (j : ℕ) → j < valueWidth → j < length w → getD (valueAt (slotWidth * rank k p (entriesIn s) + valueStart) s) j 0 ≡ getD w j 0
       at j h l =
           let g : slotWidth * rank k p (entriesIn s) + 7 + j ≡ slotWidth * rank k p (entriesIn s) + (7 + j) = omega arith in
           getD-valueAt s (slotWidth * rank k p (entriesIn s) + 7) j h
@@ -114,7 +116,7 @@ module _ (s : List ℕ) (v : dataValid s ≡ true) (k : ℕ) (new : List ℕ) wh
   unfolding setBaseValue baseOnto baseAt foundIn foundOf baseRuling
   base-valid = go (find k 0 (entriesIn s)) refl
     where
-      by : (b : Entry) → find k 0 (entriesIn s) ≡ some b → (c : Cell) → b .cell ≡ c → baseOnto new c ≡ baseRuling new (overBase new (valueAt (slotWidth * rank k 0 (entriesIn s) + 7) s))
+      by : (b : Entry) → find k 0 (entriesIn s) ≡ some b → (c : Cell) → b .cell ≡ c → baseOnto new c ≡ baseRuling new (overBase new (valueAt (slotWidth * rank k 0 (entriesIn s) + valueStart) s))
       by b e (write i w) f = rw (value-valid s v k 0 b e i w f) (over-is new w)
       by b e (delta d n) f = absurd (no-delta (b .estimate) d n (rw f at (fine-there s v k 0 b e)))
 

@@ -8,26 +8,25 @@ use native.Mathlib.Omega.{arith}
 use lib.Dec.{leb, eqb}
 use lib.ListN.{length, getD, take, drop}
 use borrow.Author.Tests.{eq-eqb, ne-eqb, le-leb, lt-leb, not-true, not-false}
+use Rattle.lists.specs.Lists.{every}
+use Rattle.lists.proofs.Bools.{and-assoc, and-swap}
 use Rattle.number.specs.Words.{AreWords}
-use Rattle.number.proofs.Digits.{words-take, words-drop}
-use Rattle.delta.specs.Delta.{deltaOk}
-use Rattle.types.specs.Value.{valueAt, valueOk, isExchanged}
-use Rattle.store.specs.Slots
-use Rattle.store.specs.Slots.{Slot, slotWidth, slotsIn, slotAt, held, packed, neighbours, isBefore, isZeroFrom, allZero, sound}
-use Rattle.store.proofs.Lists.{and-assoc, and-swap}
-use Rattle.store.proofs.Order.{ordered-is-neighbours}
-use Rattle.store.proofs.Words.{slot-inside, slotAt-part, slotAt-word, length-slotAt}
-use Rattle.versioned_data.specs.Layout.{dataValid, slotOk, bodyTest, slotTest}
-use Rattle.versioned_data.proofs.ValidSlots.{valid-slots}
-use Rattle.versioned_data.proofs.SlotTest.{slotOk-test}
+use Rattle.delta.specs.Delta.{deltaWidth, deltaOk}
+use Rattle.types.specs.Value.{valueWidth, valueAt, valueOk, isExchanged}
+use Rattle.store.specs.Slots.{slotWidth, slotsIn, slotAt, held, packed, neighbours, isBefore, isZeroFrom, allZero, sound}
+use Rattle.store.proofs.SlotOrder.{ordered-is-neighbours}
+use Rattle.store.proofs.StoreWords.{slotAt-part, slotAt-word}
+use Rattle.versioned_data.specs.Layout.{valueStart, valueEnd, deltaStart, deltaEnd, shortcutEnd, dataValid, slotOk, bodyTest, slotTest}
+use Rattle.versioned_data.proofs.ScanSlots.{valid-slots}
+use Rattle.versioned_data.proofs.ScanSlotWords.{slotOk-at}
 
 -- the order of all slots is that of neighbours, so rule 5 is what a scan decides
 pub valid-sound : (s : List ℕ) → dataValid s ≡ sound slotOk isBefore s
 unfolding packed sound
 valid-sound s =
-    valid-slots s ∙ ap (λ (b : Bool). isZeroFrom (length (held s)) s && b && Slots.every slotOk (held s)) (ordered-is-neighbours (held s))
-    ∙ and-assoc (isZeroFrom (length (held s)) s) (neighbours isBefore (held s)) (Slots.every slotOk (held s))
-    ∙ ap (λ (b : Bool). isZeroFrom (length (held s)) s && b) (and-swap (neighbours isBefore (held s)) (Slots.every slotOk (held s)))
+    valid-slots s ∙ ap (λ (b : Bool). isZeroFrom (length (held s)) s && b && every slotOk (held s)) (ordered-is-neighbours (held s))
+    ∙ and-assoc (isZeroFrom (length (held s)) s) (neighbours isBefore (held s)) (every slotOk (held s))
+    ∙ ap (λ (b : Bool). isZeroFrom (length (held s)) s && b) (and-swap (neighbours isBefore (held s)) (every slotOk (held s)))
 
 -- the first test that fails settles a conjunction, and the last one decides it
 and-no : (a b : Bool) → a ≡ false → false ≡ (a && b)
@@ -97,60 +96,60 @@ module _ (s : List ℕ) (i : ℕ) where
       pub placed-base : n ≡ 0 → (f : ℕ) → f ≡ getD s (slotWidth * i + 5) 0 → eqb f 0 ≡ placed x
       placed-base k f ef = rw (base, word-is 6 n (omega arith) en, eq-eqb n 0 k, word-is 5 f (omega arith) ef)
 
-  module _ (v : List ℕ) (ev : v ≡ valueAt (slotWidth * i + 7) s) (o : Bool) (eo : o ≡ valueOk v) where
-    value-there : valueAt 7 (slotAt i s) ≡ v
+  module _ (v : List ℕ) (ev : v ≡ valueAt (slotWidth * i + valueStart) s) (o : Bool) (eo : o ≡ valueOk v) where
+    value-there : valueAt valueStart (slotAt i s) ≡ v
     unfolding valueAt
-    value-there = slotAt-part i 7 7 s (omega arith) ∙ sym ev
+    value-there = slotAt-part i valueStart valueWidth s (omega arith) ∙ sym ev
 
-    value-told : valueOk (valueAt 7 (slotAt i s)) ≡ o
+    value-told : valueOk (valueAt valueStart (slotAt i s)) ≡ o
     value-told = ap valueOk value-there ∙ sym eo
 
     pub write-value : not o ≡ true → false ≡ bodyTest 0 (slotAt i s)
     unfolding bodyTest
     write-value h =
-        three-first (valueOk (valueAt 7 (slotAt i s))) (placed (isExchanged (valueAt 7 (slotAt i s)))) (allZero (drop 14 (slotAt i s)))
+        three-first (valueOk (valueAt valueStart (slotAt i s))) (placed (isExchanged (valueAt valueStart (slotAt i s)))) (allZero (drop valueEnd (slotAt i s)))
         (value-told ∙ not-true o h)
 
     module _ (ho : not o ≡ false) (p : Bool) (ep : p ≡ placed (isExchanged v)) where
-      placed-told : placed (isExchanged (valueAt 7 (slotAt i s))) ≡ p
+      placed-told : placed (isExchanged (valueAt valueStart (slotAt i s))) ≡ p
       placed-told = ap (λ (l : List ℕ). placed (isExchanged l)) value-there ∙ sym ep
 
       pub write-place : not p ≡ true → false ≡ bodyTest 0 (slotAt i s)
       unfolding bodyTest
       write-place h =
-          three-second (valueOk (valueAt 7 (slotAt i s))) (placed (isExchanged (valueAt 7 (slotAt i s)))) (allZero (drop 14 (slotAt i s)))
+          three-second (valueOk (valueAt valueStart (slotAt i s))) (placed (isExchanged (valueAt valueStart (slotAt i s)))) (allZero (drop valueEnd (slotAt i s)))
           (value-told ∙ not-false o ho) (placed-told ∙ not-true p h)
 
-      pub write-rest : not p ≡ false → (r : Bool) → r ≡ allZero (drop 14 (slotAt i s)) → r ≡ bodyTest 0 (slotAt i s)
+      pub write-rest : not p ≡ false → (r : Bool) → r ≡ allZero (drop valueEnd (slotAt i s)) → r ≡ bodyTest 0 (slotAt i s)
       unfolding bodyTest
       write-rest h r e =
-          three-last (valueOk (valueAt 7 (slotAt i s))) (placed (isExchanged (valueAt 7 (slotAt i s)))) (allZero (drop 14 (slotAt i s))) r
+          three-last (valueOk (valueAt valueStart (slotAt i s))) (placed (isExchanged (valueAt valueStart (slotAt i s)))) (allZero (drop valueEnd (slotAt i s))) r
           (value-told ∙ not-false o ho) (placed-told ∙ not-false p h) e
 
   -- ---- a delta
 
   abbrev deltaFrom : ℕ → Bool
-  deltaFrom j = not (eqb (getD (slotAt i s) 2 0) 0) && deltaOk (take 17 (drop 6 (slotAt i s))) && allZero (drop j (slotAt i s))
+  deltaFrom j = not (eqb (getD (slotAt i s) 2 0) 0) && deltaOk (take deltaWidth (drop deltaStart (slotAt i s))) && allZero (drop j (slotAt i s))
 
   module _ (j p : ℕ) (ep : p ≡ getD s (slotWidth * i + 2) 0) where
     pub delta-base : p ≡ 0 → false ≡ deltaFrom j
     delta-base h = rw (word-is 2 p (omega arith) ep, eq-eqb p 0 h)
 
-    module _ (h : p ≡ 0 → ⊥) (o : Bool) (eo : o ≡ deltaOk (take 17 (drop (slotWidth * i + 6) s))) where
+    module _ (h : p ≡ 0 → ⊥) (o : Bool) (eo : o ≡ deltaOk (take deltaWidth (drop (slotWidth * i + deltaStart) s))) where
       above : not (eqb (getD (slotAt i s) 2 0) 0) ≡ true
       above = rw (word-is 2 p (omega arith) ep, ne-eqb p 0 h)
 
-      delta-told : deltaOk (take 17 (drop 6 (slotAt i s))) ≡ o
-      delta-told = ap deltaOk (slotAt-part i 6 17 s (omega arith)) ∙ sym eo
+      delta-told : deltaOk (take deltaWidth (drop deltaStart (slotAt i s))) ≡ o
+      delta-told = ap deltaOk (slotAt-part i deltaStart deltaWidth s (omega arith)) ∙ sym eo
 
       pub delta-words : not o ≡ true → false ≡ deltaFrom j
       delta-words k =
-          three-second (not (eqb (getD (slotAt i s) 2 0) 0)) (deltaOk (take 17 (drop 6 (slotAt i s)))) (allZero (drop j (slotAt i s))) above
+          three-second (not (eqb (getD (slotAt i s) 2 0) 0)) (deltaOk (take deltaWidth (drop deltaStart (slotAt i s)))) (allZero (drop j (slotAt i s))) above
           (delta-told ∙ not-true o k)
 
       pub delta-rest : not o ≡ false → (r : Bool) → r ≡ allZero (drop j (slotAt i s)) → r ≡ deltaFrom j
       delta-rest k r e =
-          three-last (not (eqb (getD (slotAt i s) 2 0) 0)) (deltaOk (take 17 (drop 6 (slotAt i s)))) (allZero (drop j (slotAt i s))) r above
+          three-last (not (eqb (getD (slotAt i s) 2 0) 0)) (deltaOk (take deltaWidth (drop deltaStart (slotAt i s)))) (allZero (drop j (slotAt i s))) r above
           (delta-told ∙ not-false o k) e
 
   -- ---- what stands after the head, by its form
@@ -162,11 +161,11 @@ module _ (s : List ℕ) (i : ℕ) where
     pub body-write : n ≡ 0 → r ≡ bodyTest 0 (slotAt i s) → r ≡ bodyTest (getD (slotAt i s) 4 0) (slotAt i s)
     body-write h e = by-form (rw h e)
 
-    pub body-delta : n ≡ 1 → r ≡ deltaFrom 23 → r ≡ bodyTest (getD (slotAt i s) 4 0) (slotAt i s)
+    pub body-delta : n ≡ 1 → r ≡ deltaFrom deltaEnd → r ≡ bodyTest (getD (slotAt i s) 4 0) (slotAt i s)
     unfolding bodyTest
     body-delta h e = by-form (rw h e)
 
-    pub body-shortcut : (n ≡ 0 → ⊥) → (n ≡ 1 → ⊥) → r ≡ deltaFrom 27 → r ≡ bodyTest (getD (slotAt i s) 4 0) (slotAt i s)
+    pub body-shortcut : (n ≡ 0 → ⊥) → (n ≡ 1 → ⊥) → r ≡ deltaFrom shortcutEnd → r ≡ bodyTest (getD (slotAt i s) 4 0) (slotAt i s)
     unfolding bodyTest
     body-shortcut h k e = by-form (go n h k)
       where
@@ -178,12 +177,8 @@ module _ (s : List ℕ) (i : ℕ) where
   -- ---- a slot
 
   module _ (w : AreWords s) (inside : i < slotsIn (length s)) (a : Bool) (ea : a ≡ head) where
-    slot-words : AreWords (slotAt i s)
-    unfolding slotAt
-    slot-words = words-take slotWidth (drop (slotWidth * i) s) (words-drop (slotWidth * i) s w)
-
     by-words : slotOk (slotAt i s) ≡ slotTest (slotAt i s)
-    by-words = slotOk-test (slotAt i s) (length-slotAt i s (slot-inside i (length s) inside)) slot-words
+    by-words = slotOk-at i s w inside
 
     pub slot-head : not a ≡ true → false ≡ slotOk (slotAt i s)
     unfolding slotTest
