@@ -9,16 +9,18 @@ use lib.Dec.{leb, eqb}
 use lib.ListN.{length, getD, take, drop, replicate, take-append-drop, length-drop}
 use lib.Seq.{length-take-le}
 use borrow.Author.Tests.{leb-true, eqb-true, le-leb, eq-eqb, ne-eqb}
+use Rattle.lists.specs.Lists.{every}
+use Rattle.lists.proofs.Bools.{and-both, and-five, and-four, and-left, and-right, and-three}
 use Rattle.number.specs.Words.{AreWords}
 use Rattle.number.proofs.Digits.{words-take}
+use Rattle.types.specs.Response.{mostTags}
 use Rattle.types.specs.Value.{valueAt, valueOk, isExchanged, isDeletion}
 use Rattle.store.specs.Slots.{Slot, slotWidth, padded, allZero}
-use Rattle.store.proofs.Lists.{allZero-told}
-use Rattle.model.specs.Rows.{every}
+use Rattle.store.proofs.ZeroWords.{allZero-told}
 use Rattle.model.specs.Fine.{isWord, fineValue, fineMember, fineCommitted}
-use Rattle.model.proofs.Lists.{and-left, and-right, and-both, and-three, and-four, and-five}
-use Rattle.model.proofs.Walk.{word-tell, words-every}
-use Rattle.group_slots.specs.Layout.{flagOf, partSlot, memberSlot, committedSlot, memberOf, updateOf, committedOf}
+use Rattle.model.proofs.FineParts.{word-tell, words-every}
+use Rattle.types.specs.Flag.{flagOf}
+use Rattle.group_slots.specs.Layout.{partSlot, memberSlot, committedSlot, memberOf, updateOf, committedOf}
 use Rattle.group_slots.specs.Tests.{baseTest, headTest, memberTest, partTest, committedTest, slotTest}
 
 -- What the head of an update's slot gives its row.
@@ -101,7 +103,7 @@ module _ (ws : List ℕ) (l : length ws ≡ 25) where
       unfolding headFine
       update-part z = update refl refl head-fine (update-again b c 0 f g small z)
 
-      member-part : (d : ℕ) → suc d ≤ 64 → memberTest (slot 1 b c (suc d) 0 f g ws) ≡ true → Part (slot 1 b c (suc d) 0 f g ws)
+      member-part : (d : ℕ) → suc d ≤ mostTags → memberTest (slot 1 b c (suc d) 0 f g ws) ≡ true → Part (slot 1 b c (suc d) 0 f g ws)
       unfolding memberTest fineMember memberOf valueAt
       member-part d h t =
           let p = and-three (valueOk (take 7 ws)) (cond (eqb c 0) true (isExchanged (take 7 ws))) (allZero (drop 7 ws)) t in
@@ -119,7 +121,7 @@ module _ (ws : List ℕ) (l : length ws ≡ 25) where
 
 -- the slots of an update
 module _ (b c f g : ℕ) (ws : List ℕ) (l : length ws ≡ 25) (wb : b < 2 ^ 32) (wc : c < 2 ^ 32) (wg : g < 2 ^ 32) (w : AreWords ws) where
-  by-body : (d : ℕ) → d ≤ 64 → f ≤ 1 → cond (eqb c 0) (eqb g 0 && eqb f 0) true ≡ true →
+  by-body : (d : ℕ) → d ≤ mostTags → f ≤ 1 → cond (eqb c 0) (eqb g 0 && eqb f 0) true ≡ true →
       cond (eqb d 0) (allZero ws) (memberTest (slot 1 b c d 0 f g ws)) ≡ true → Part (slot 1 b c d 0 f g ws)
   by-body zero h small base t = update-part ws l b c f g wb wc w wg small base t
   by-body (suc d) h small base t =
@@ -129,12 +131,12 @@ module _ (b c f g : ℕ) (ws : List ℕ) (l : length ws ≡ 25) (wb : b < 2 ^ 32
   part-told : (d e : ℕ) → partTest (slot 1 b c d e f g ws) ≡ true → Part (slot 1 b c d e f g ws)
   unfolding partTest headTest baseTest
   part-told d e t =
-      let p = and-four (leb d 64) (eqb e 0) (leb f 1) (cond (eqb c 0) (eqb g 0 && eqb f 0) true)
+      let p = and-four (leb d mostTags) (eqb e 0) (leb f 1) (cond (eqb c 0) (eqb g 0 && eqb f 0) true)
       (and-left (headTest (slot 1 b c d e f g ws)) (cond (eqb d 0) (allZero ws) (memberTest (slot 1 b c d e f g ws))) t) in
       let q : cond (eqb d 0) (allZero ws) (memberTest (slot 1 b c d e f g ws)) ≡ true =
       and-right (headTest (slot 1 b c d e f g ws)) (cond (eqb d 0) (allZero ws) (memberTest (slot 1 b c d e f g ws))) t in
       let z : e ≡ 0 = eqb-true e 0 (p .1) in
-      rw z (by-body d (leb-true d 64 (p .0)) (leb-true f 1 (p .2)) (p .3) (rw z at q))
+      rw z (by-body d (leb-true d mostTags (p .0)) (leb-true f 1 (p .2)) (p .3) (rw z at q))
 
 -- the slot of a committed value
 committed-told : (b c d e f g : ℕ) (ws : List ℕ) → length ws ≡ 25 → b < 2 ^ 32 → c < 2 ^ 32 → AreWords ws →

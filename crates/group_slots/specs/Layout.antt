@@ -12,26 +12,23 @@
 -- committed values by key and tag.
 use mathlib.Core.Bool.{Bool, cond, _&&_}
 use mathlib.Core.List.{List, [], _∷_, _++_, map}
-use mathlib.Core.Option.{Option}
 use Prim.Native.Nat.{ℕ, suc, _+_, _-_}
-use lib.Dec.{leb, eqb}
+use lib.Dec.{eqb}
 use lib.ListN.{length, getD}
 use Rattle.types.specs.Value.{valueAt}
+use Rattle.types.specs.Flag.{flagOf}
+use Rattle.types.specs.Units.{lackOf}
 use Rattle.request.specs.Set.{Member}
 use Rattle.store.specs.Slots.{Slot, slotsIn, encode, held, padded, sameWords}
-use Rattle.model.specs.Rows.{Row, find, Edit, edited}
-use Rattle.model.specs.Data.{Ruling, refuse, accept}
-use Rattle.model.specs.Group.{Update, Committed, Commits}
-use Rattle.model.specs.Model.{updatesHeld, ruled}
+use Rattle.model.specs.Rows.{Row}
+use Rattle.model.specs.Group.{Update, Committed}
+use Rattle.model.specs.Model.{updatesHeld}
 use Rattle.model.specs.Fine.{fineUpdates, fineGroup}
 
 -- What the group store holds.
 pub record Groups : Type 0 where
   pub updates : List (Row Update)
   pub committed : Committed
-
-unfoldable pub flagOf : Bool → ℕ
-flagOf estimate = cond estimate 1 0
 
 -- The slots of an update: the same but for word 3 and the value.
 unfoldable pub partSlot : Row Update → ℕ → List ℕ → Slot
@@ -105,16 +102,20 @@ fineGroups g = fineUpdates (g .updates) && fineGroup (g .committed)
 unfoldable pub groupValid : List ℕ → Bool
 groupValid s = sameWords (holding s (groupsIn s)) s && fineGroups (groupsIn s)
 
--- "a group update 1 plus 1 a tag; a committed tag 1". 14: "more units after the ticket than the store has".
+-- "a group update 1 plus 1 a tag; a committed tag 1"
 unfoldable pub heldBy : Groups → ℕ
 heldBy g = updatesHeld (g .updates) + length (g .committed)
 
+-- "more units after the ticket than the store has": the refusal of what a store like `s` cannot hold, 0 of what it can.
+unfoldable pub lackIn : List ℕ → Groups → ℕ
+lackIn s g = lackOf (heldBy g) (slotsIn (length s))
+
 unfoldable pub fitsIn : List ℕ → Groups → Bool
-fitsIn s g = leb (heldBy g) (slotsIn (length s))
+fitsIn s g = eqb (lackIn s g) 0
 
 -- The same with other updates, and with other committed values.
-unfoldable pub withUpdates : Groups → List (Row Update) → Groups
-withUpdates g rows = record { updates = rows; committed = g .committed }
+unfoldable pub withGroupUpdates : Groups → List (Row Update) → Groups
+withGroupUpdates g rows = record { updates = rows; committed = g .committed }
 
 unfoldable pub withGroup : Groups → Committed → Groups
 withGroup g rows = record { updates = g .updates; committed = rows }

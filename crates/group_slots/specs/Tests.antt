@@ -3,6 +3,7 @@ use mathlib.Core.Bool.{Bool, true, cond, not, _&&_}
 use mathlib.Core.List.{List, [], _∷_}
 use lib.Dec.{leb, eqb}
 use lib.ListN.{getD, take, drop}
+use Rattle.types.specs.Response.{mostTags}
 use Rattle.types.specs.Value.{valueAt, valueOk, isExchanged, isDeletion}
 use Rattle.store.specs.Slots.{Slot, isBefore, allZero}
 
@@ -12,7 +13,7 @@ baseTest u = cond (eqb (getD u 2 0) 0) (eqb (getD u 6 0) 0 && eqb (getD u 5 0) 0
 
 -- "fields in range", of any slot of an update
 unfoldable pub headTest : Slot → Bool
-headTest u = leb (getD u 3 0) 64 && eqb (getD u 4 0) 0 && leb (getD u 5 0) 1 && baseTest u
+headTest u = leb (getD u 3 0) mostTags && eqb (getD u 4 0) 0 && leb (getD u 5 0) 1 && baseTest u
 
 -- "only bases and committed values are raw"
 unfoldable pub memberTest : Slot → Bool

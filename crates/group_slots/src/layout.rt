@@ -1,4 +1,5 @@
 // How updates and committed values stand in slots of 32 words (specs/Layout.antt).
+use types::response::MOST_TAGS;
 
 // The first word of an update's slots, and of a committed value's.
 pub const UPDATE: u32 = 1;
@@ -23,8 +24,8 @@ pub const VALUE: usize = 7;
 pub const AFTER_VALUE: usize = 14;
 
 // After every part of an update, and after every tag.
-pub const AFTER_PARTS: u32 = 65;
+pub const AFTER_PARTS: u32 = AFTER_TAGS + 1;
 
-pub const AFTER_TAGS: u32 = 64;
+pub const AFTER_TAGS: u32 = MOST_TAGS as u32;
 
 pub const LAST_FLAG: u32 = 1;

@@ -4,16 +4,16 @@ use mathlib.Core.List.{List, map, reverse}
 use Prim.Native.Nat.{ℕ, _-_}
 use lib.Dec.{eqb}
 use lib.ListN.{getD, take}
+use Rattle.lists.specs.Lists.{front, keep}
 use Rattle.types.specs.Value.{valueAt}
-use Rattle.store.specs.Slots.{Slot, front}
-use Rattle.model.specs.Rows.{keep}
+use Rattle.store.specs.Slots.{Slot}
 use Rattle.versioned_group_data.specs.Sizes.{Item}
 
 unfoldable pub isUpdateOf : ℕ → Slot → Bool
 isUpdateOf key u = eqb (getD u 0 0) 1 && eqb (getD u 1 0) key
 
-unfoldable pub isMember : Slot → Bool
-isMember u = not (eqb (getD u 3 0) 0)
+unfoldable pub isTagged : Slot → Bool
+isTagged u = not (eqb (getD u 3 0) 0)
 
 unfoldable pub itemIn : Slot → Item
 itemIn u =
@@ -31,4 +31,4 @@ slotsDown key i us = front (isUpdateOf key) (reverse (take i us))
 
 -- The members among them.
 unfoldable pub itemsAt : ℕ → ℕ → List Slot → List Item
-itemsAt key i us = map itemIn (keep isMember (slotsDown key i us))
+itemsAt key i us = map itemIn (keep isTagged (slotsDown key i us))

@@ -3,9 +3,9 @@
 use mathlib.Core.Bool.{Bool, cond, _&&_}
 use mathlib.Core.List.{List}
 use Prim.Native.Nat.{ℕ, suc}
+use Rattle.lists.specs.Lists.{every}
 use Rattle.types.specs.Value.{isCreation, isDeletion}
 use Rattle.request.specs.Set.{Member}
-use Rattle.model.specs.Rows.{every}
 use Rattle.model.specs.Group.{Committed}
 use Rattle.versioned_group_data.specs.Commit.{passes, creations, deletions}
 use Rattle.versioned_group_data.specs.declared.commit.Growth.{Growth}

@@ -9,7 +9,7 @@ use Rattle.request.specs.declared.set.Set.{Set}
 use Rattle.store.specs.Slots.{Slot}
 use Rattle.model.specs.Rows.{set}
 use Rattle.model.specs.Data.{Ruling, accept, doneAnswer}
-use Rattle.model.specs.Group.{Update, Committed}
+use Rattle.model.specs.Group.{Update}
 use Rattle.group_slots.specs.Layout.{Groups}
 use Rattle.versioned_group_data.specs.Ruled.{editing}
 

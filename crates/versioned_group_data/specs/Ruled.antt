@@ -6,27 +6,27 @@ use mathlib.Core.List.{List, _++_}
 use mathlib.Core.Option.{Option}
 use Prim.Native.Nat.{ℕ}
 use lib.ListN.{length, drop}
-use Rattle.model.specs.Rows.{Row, find, Edit, edited}
+use Rattle.model.specs.Rows.{find, Edit, edited}
 use Rattle.model.specs.Data.{Ruling, refuse, accept}
 use Rattle.model.specs.Group.{Update, Committed, Commits}
 use Rattle.model.specs.Model.{ruled}
-use Rattle.group_slots.specs.Layout.{Groups, withUpdates, holding, fitsIn}
+use Rattle.group_slots.specs.Layout.{Groups, withGroupUpdates, holding, lackIn, fitsIn}
 
 -- A rule over the update at its own key and shifted index.
 unfoldable pub editing : Groups → ℕ → ℕ → (Option Update → Ruling (Edit Update)) → Ruling Groups
-editing g key place rule = ruled (λ e. withUpdates g (edited key place e (g .updates))) (rule (find key place (g .updates)))
+editing g key place rule = ruled (λ e. withGroupUpdates g (edited key place e (g .updates))) (rule (find key place (g .updates)))
 
-unfoldable pub withCommits : Groups → ℕ → ℕ → Commits → Groups
-withCommits g key place c = record { updates = edited key place (c .edit) (g .updates); committed = c .group }
+unfoldable pub withGroupCommits : Groups → ℕ → ℕ → Commits → Groups
+withGroupCommits g key place c = record { updates = edited key place (c .edit) (g .updates); committed = c .group }
 
 -- A rule over that update and the committed values.
 unfoldable pub committing : Groups → ℕ → ℕ → (Option Update → Committed → Ruling Commits) → Ruling Groups
-committing g key place rule = ruled (withCommits g key place) (rule (find key place (g .updates)) (g .committed))
+committing g key place rule = ruled (withGroupCommits g key place) (rule (find key place (g .updates)) (g .committed))
 
--- The number that is answered, 0 where the rule accepts and the store has the slots.
+-- The number that is answered: the rule's refusal, else what lacks, 0 where the store has the slots.
 unfoldable pub resultOf : List ℕ → Ruling Groups → ℕ
 resultOf s (refuse n) = n
-resultOf s (accept answer g) = cond (fitsIn s g) 0 14
+resultOf s (accept answer g) = lackIn s g
 
 unfoldable pub wordsAfter : List ℕ → Ruling Groups → List ℕ
 wordsAfter s (refuse n) = s

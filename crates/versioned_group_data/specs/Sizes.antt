@@ -7,6 +7,7 @@ use Prim.Native.Nat.{ℕ, suc, _+_, _*_, _≤_}
 use lib.Dec.{leb, ltb, eqb}
 use lib.ListN.{length, getD, set}
 use Rattle.types.specs.Value.{bytesLen}
+use Rattle.types.specs.Response.{mostTags}
 use Rattle.request.specs.Set.{Member}
 use Rattle.model.specs.Rows.{Row}
 use Rattle.model.specs.Group.{Update, Latest, Size, counted, waits}
@@ -37,11 +38,14 @@ unfoldable pub firstOf : ℕ → List Item → Option Item
 firstOf tag [] = none
 firstOf tag (x ∷ xs) = cond (eqb (x .tag) tag) (some x) (firstOf tag xs)
 
+abbrev pub latestIn : Item → Latest
+latestIn x = record { place = x .place; incarnation = x .incarnation; estimate = x .estimate; value = x .value }
+
 unfoldable pub latestOf : Option Item → Option Latest
 latestOf none = none
-latestOf (some x) = some (record { place = x .place; incarnation = x .incarnation; estimate = x .estimate; value = x .value })
+latestOf (some x) = some (latestIn x)
 
--- What has been counted so far, the lowest tag that is an estimate, 64 if there is none, and the place of that.
+-- What has been counted so far, the lowest tag that is an estimate, or one above all tags, and the place of that.
 pub record Tally : Type 0 where
   pub members : ℕ
   pub sum : ℕ
@@ -49,7 +53,7 @@ pub record Tally : Type 0 where
   pub waitsAt : ℕ
 
 unfoldable pub start : Tally
-start = record { members = 0; sum = 0; lowest = 64; waitsAt = 0 }
+start = record { members = 0; sum = 0; lowest = mostTags; waitsAt = 0 }
 
 unfoldable pub waiting : ℕ → ℕ → Tally → Tally
 waiting tag place t = cond (ltb tag (t .lowest)) (record { members = t .members; sum = t .sum; lowest = tag; waitsAt = place }) t
@@ -68,15 +72,15 @@ tally seen t (x ∷ xs) =
     cond (eqb (getD seen (x .tag) 0) 0) (tally (set seen (x .tag) 1) (tallied x t) xs) (tally seen t xs)
 
 unfoldable pub sizeOf : Tally → Size
-sizeOf t = cond (ltb (t .lowest) 64) (waits (t .waitsAt)) (counted (t .members) (t .sum))
+sizeOf t = cond (ltb (t .lowest) mostTags) (waits (t .waitsAt)) (counted (t .members) (t .sum))
 
 -- How many words are not 0.
-unfoldable pub marked : List ℕ → ℕ
-marked [] = 0
-marked (w ∷ ws) = cond (eqb w 0) (marked ws) (suc (marked ws))
+unfoldable pub seenCount : List ℕ → ℕ
+seenCount [] = 0
+seenCount (w ∷ ws) = cond (eqb w 0) (seenCount ws) (suc (seenCount ws))
 
 -- For each tag seen at most one member, and 1,048,577 to the sum.
 pub record Bounded (seen : List ℕ) (t : Tally) : Type 0 where
-  pub tags : length seen ≡ 64
-  pub members : t .members ≤ marked seen
-  pub sum : t .sum ≤ marked seen * 1048577
+  pub tags : length seen ≡ mostTags
+  pub members : t .members ≤ seenCount seen
+  pub sum : t .sum ≤ seenCount seen * 1048577

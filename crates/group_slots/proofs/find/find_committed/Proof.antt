@@ -2,8 +2,8 @@
 -- Assumes nothing.
 use mathlib.Core.Path.{_∙_}
 use native.Mathlib.Omega.{arith}
-use Rattle.group_slots.proofs.Holding.{packed-valid}
-use Rattle.group_slots.proofs.Places.{committed-found-valid}
+use Rattle.group_slots.proofs.GroupHolding.{packed-valid}
+use Rattle.group_slots.proofs.GroupPlaces.{committed-found-valid}
 use Rattle.group_slots.proofs.find.find_committed.Statement.{statement}
 use Rattle.group_slots.proofs.find.find_committed.Tie as tie
 

@@ -2,8 +2,8 @@
 -- Assumes nothing.
 use native.Mathlib.Omega.{arith}
 use borrow.Author.Needs.{needs}
-use Rattle.group_slots.proofs.Holding.{packed-valid}
-use Rattle.group_slots.proofs.Places.{member-is}
+use Rattle.group_slots.proofs.GroupHolding.{packed-valid}
+use Rattle.group_slots.proofs.GroupPlaces.{member-is}
 use Rattle.group_slots.proofs.find.find_member.Statement.{statement}
 use Rattle.group_slots.proofs.find.find_member.Tie as tie
 

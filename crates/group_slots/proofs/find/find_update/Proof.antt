@@ -1,8 +1,8 @@
 -- `group_slots::find::find_update` meets its contract.
 -- Assumes nothing.
 use borrow.Author.Needs.{needs}
-use Rattle.group_slots.proofs.Holding.{packed-valid}
-use Rattle.group_slots.proofs.Places.{run-rises, run-is}
+use Rattle.group_slots.proofs.GroupHolding.{packed-valid}
+use Rattle.group_slots.proofs.GroupPlaces.{run-rises, run-is}
 use Rattle.group_slots.proofs.find.find_update.Statement.{statement}
 use Rattle.group_slots.proofs.find.find_update.Tie as tie
 

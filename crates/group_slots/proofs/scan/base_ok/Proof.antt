@@ -1,7 +1,7 @@
 -- `group_slots::scan::base_ok` meets its contract.
 -- Assumes nothing.
 use borrow.Author.Needs.{needs}
-use Rattle.group_slots.proofs.Scanning.{base-above, base-again, base-done}
+use Rattle.group_slots.proofs.ScanExits.{base-above, base-again, base-done}
 use Rattle.group_slots.proofs.scan.base_ok.Statement.{statement}
 use Rattle.group_slots.proofs.scan.base_ok.Tie as tie
 

@@ -1,7 +1,7 @@
 -- `group_slots::scan::first_ok` meets its contract.
 -- Assumes nothing.
 use borrow.Author.Needs.{needs}
-use Rattle.group_slots.proofs.Scanning.{first-none, first-there}
+use Rattle.group_slots.proofs.ScanExits.{first-none, first-there}
 use Rattle.group_slots.proofs.scan.first_ok.Statement.{statement}
 use Rattle.group_slots.proofs.scan.first_ok.Tie as tie
 

@@ -1,7 +1,7 @@
 -- `group_slots::scan::head_ok` meets its contract.
 -- Assumes nothing.
 use borrow.Author.Needs.{needs}
-use Rattle.group_slots.proofs.Scanning.{head-part, head-fourth, head-flag, head-base}
+use Rattle.group_slots.proofs.ScanExits.{head-part, head-fourth, head-flag, head-base}
 use Rattle.group_slots.proofs.scan.head_ok.Statement.{statement}
 use Rattle.group_slots.proofs.scan.head_ok.Tie as tie
 
@@ -27,7 +27,9 @@ base-ok-requires : tie.Need-base-ok-requires
 base-ok-requires c κs = search needs
 
 returns-4 : tie.Need-returns-4
-returns-4 c = head-base _ _ _ (c .before .before .before .before .before .before .word .ensures) (c .before .before .before .before .before .if1 .left) _ (c .before .before .before .before .word2 .ensures) (c .before .before .before .if2 .left) _ (c .before .before .word3 .ensures) (c .before .if3 .left) _ (c .base-ok .ensures)
+returns-4 c =
+    let at-word = c .before .before .before .before .before .before in
+    head-base _ _ _ (at-word .word .ensures) (c .before .before .before .before .before .if1 .left) _ (c .before .before .before .before .word2 .ensures) (c .before .before .before .if2 .left) _ (c .before .before .word3 .ensures) (c .before .if3 .left) _ (c .base-ok .ensures)
 
 pub head-ok-spec : {M : Type 1} → statement M
 head-ok-spec =

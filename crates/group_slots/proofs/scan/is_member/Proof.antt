@@ -1,7 +1,7 @@
 -- `group_slots::scan::is_member` meets its contract.
 -- Assumes nothing.
 use borrow.Author.Needs.{needs}
-use Rattle.group_slots.proofs.Scanning.{member-other, member-part}
+use Rattle.group_slots.proofs.ScanExits.{member-other, member-part}
 use Rattle.group_slots.proofs.scan.is_member.Statement.{statement}
 use Rattle.group_slots.proofs.scan.is_member.Tie as tie
 

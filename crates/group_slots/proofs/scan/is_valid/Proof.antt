@@ -1,7 +1,7 @@
 -- `group_slots::scan::is_valid` meets its contract.
 -- Assumes nothing.
 use borrow.Author.Needs.{needs}
-use Rattle.group_slots.proofs.Scanning.{valid-first, valid-slots}
+use Rattle.group_slots.proofs.ScanExits.{valid-first, valid-slots}
 use Rattle.group_slots.proofs.scan.is_valid.Statement.{statement}
 use Rattle.group_slots.proofs.scan.is_valid.Tie as tie
 

@@ -1,7 +1,7 @@
 -- `group_slots::scan::part_ok` meets its contract.
 -- Assumes nothing.
 use borrow.Author.Needs.{needs}
-use Rattle.group_slots.proofs.Scanning.{part-head, part-update, part-member}
+use Rattle.group_slots.proofs.ScanExits.{part-head, part-update, part-member}
 use Rattle.group_slots.proofs.scan.part_ok.Statement.{statement}
 use Rattle.group_slots.proofs.scan.part_ok.Tie as tie
 

@@ -1,7 +1,7 @@
 -- `group_slots::scan::place_ok` meets its contract.
 -- Assumes nothing.
 use borrow.Author.Needs.{needs}
-use Rattle.group_slots.proofs.Scanning.{place-base, place-above}
+use Rattle.group_slots.proofs.ScanExits.{place-base, place-above}
 use Rattle.group_slots.proofs.scan.place_ok.Statement.{statement}
 use Rattle.group_slots.proofs.scan.place_ok.Tie as tie
 

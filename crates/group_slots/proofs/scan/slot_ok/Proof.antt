@@ -1,7 +1,7 @@
 -- `group_slots::scan::slot_ok` meets its contract.
 -- Assumes nothing.
 use borrow.Author.Needs.{needs}
-use Rattle.group_slots.proofs.Scanning.{slot-part, slot-committed, slot-neither}
+use Rattle.group_slots.proofs.ScanExits.{slot-part, slot-committed, slot-neither}
 use Rattle.group_slots.proofs.scan.slot_ok.Statement.{statement}
 use Rattle.group_slots.proofs.scan.slot_ok.Tie as tie
 

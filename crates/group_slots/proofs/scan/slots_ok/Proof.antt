@@ -8,8 +8,8 @@ use Prim.Native.Nat.{_≤_, _-_}
 use lib.ListN.{length}
 use borrow.Author.Tests.{not-true, not-false}
 use Rattle.store.specs.Slots.{slotsIn}
-use Rattle.store.proofs.Compare.{word-used, word-unused}
-use Rattle.store.proofs.Scans.{
+use Rattle.store.proofs.SlotCompares.{word-used, word-unused}
+use Rattle.store.proofs.SlotScans.{
   passed,
   passed-none,
   passed-more,
@@ -60,7 +60,8 @@ joins-requires c κs = search needs
 
 returns-3 : tie.Need-returns-3 Inv-loop μ-loop
 returns-3 c =
-    scan-not-joined _ _ _ _ (omega arith) (c .before .before .before .before .before .before .before .loop .inv .2)
+    let at-loop = c .before .before .before .before .before .before .before in
+    scan-not-joined _ _ _ _ (omega arith) (at-loop .loop .inv .2)
     (word-used _ _ (omega arith) _ (c .before .before .before .before .before .word .ensures) (c .before .before .before .before .if1 .left))
     (sym (c .before .joins .ensures) ∙ not-true _ (c .if3 .taken))
 
@@ -71,14 +72,15 @@ loop-less : tie.Need-loop-less Inv-loop μ-loop
 loop-less c = search needs
 
 loop-again : tie.Need-loop-again Inv-loop μ-loop
-loop-again c = (
-  omega arith,
-  c .before .before .before .before .before .before .before .loop .inv .1,
-  passed-more _ _ _ _ (c .before .before .before .before .before .before .before .loop .inv .2)
-      (word-used _ _ (omega arith) _ (c .before .before .before .before .before .word .ensures) (c .before .before .before .before .if1 .left))
-      (sym (c .before .before .before .slot-ok .ensures) ∙ not-false _ (c .before .before .if2 .left))
-      (sym (c .before .joins .ensures) ∙ not-false _ (c .if3 .left)),
-)
+loop-again c =
+    let at-loop = c .before .before .before .before .before .before .before in (
+      omega arith,
+      at-loop .loop .inv .1,
+      passed-more _ _ _ _ (at-loop .loop .inv .2)
+          (word-used _ _ (omega arith) _ (c .before .before .before .before .before .word .ensures) (c .before .before .before .before .if1 .left))
+          (sym (c .before .before .before .slot-ok .ensures) ∙ not-false _ (c .before .before .if2 .left))
+          (sym (c .before .joins .ensures) ∙ not-false _ (c .if3 .left)),
+    )
 
 returns-4 : tie.Need-returns-4 Inv-loop μ-loop
 returns-4 c = scan-done _ _ _ _ (c .before .loop .inv .2) (omega arith)

@@ -1,7 +1,7 @@
 -- `versioned_group_data::base::agrees` meets its contract.
 -- Assumes nothing.
 use borrow.Author.Needs.{needs}
-use Rattle.versioned_group_data.proofs.Agreeing.{agrees-exchanged, agrees-raw}
+use Rattle.versioned_group_data.proofs.BaseAgreeing.{agrees-exchanged, agrees-raw}
 use Rattle.versioned_group_data.proofs.base.agrees.Statement.{statement}
 use Rattle.versioned_group_data.proofs.base.agrees.Tie as tie
 

@@ -11,8 +11,8 @@ use Rattle.model.specs.Rows.{find}
 use Rattle.model.specs.Group.{allAgree, membersIn}
 use Rattle.group_slots.specs.Layout.{groupsIn}
 use Rattle.versioned_group_data.specs.Members.{membersAt}
-use Rattle.versioned_group_data.proofs.Writing.{first-some, first-again, first-empty, rest-fewer}
-use Rattle.versioned_group_data.proofs.Agreeing.{agree-end, agree-stop, agree-again}
+use Rattle.versioned_group_data.proofs.UpdateBuilding.{first-some, first-again, first-empty, rest-fewer}
+use Rattle.versioned_group_data.proofs.BaseAgreeing.{agree-end, agree-stop, agree-again}
 use Rattle.versioned_group_data.proofs.base.all_agree.Statement.{statement}
 use Rattle.versioned_group_data.proofs.base.all_agree.Tie as tie
 
@@ -38,23 +38,38 @@ first-requires-2 : tie.Need-first-requires-2 Inv-loop μ-loop
 first-requires-2 c κs = search needs
 
 tag-agrees-requires : tie.Need-tag-agrees-requires Inv-loop μ-loop
-tag-agrees-requires c κs = (c .before .before .before .before .before .before .before .pre .0, omega (arith, c .first2 .ensures, c .before .before .before .first .ensures, c .before .before .if1 .taken))
+tag-agrees-requires c κs =
+    let at-start = c .before .before .before .before .before .before .before in
+    (at-start .pre .0, omega (arith, c .first2 .ensures, c .before .before .before .first .ensures, c .before .before .if1 .taken))
 
 returns : tie.Need-returns Inv-loop μ-loop
 unfolding membersAt
-returns c = agree-stop _ _ _ (first-again _ _ _ _ (c .before .before .first2 .ensures) (c .before .before .before .before .before .first .ensures) (c .before .before .before .before .if1 .taken) refl) _ _ _ _ (c .before .before .before .before .before .before .loop .inv .0) (λ i. c .before .before .before .before .before .before .before .shared-slice-known2 .given i .fits) (c .before .before .before .before .before .before .loop .inv .1) _ (c .before .before .before .read .ensures) _ (c .before .tag-agrees .ensures) (c .if2 .taken)
+returns c =
+    let at-shared-slice-known2 = c .before .before .before .before .before .before .before in
+    let at-loop = c .before .before .before .before .before .before in
+    agree-stop _ _ _ (first-again _ _ _ _ (c .before .before .first2 .ensures) (c .before .before .before .before .before .first .ensures) (c .before .before .before .before .if1 .taken) refl) _ _ _ _ (at-loop .loop .inv .0) (λ i. at-shared-slice-known2 .shared-slice-known2 .given i .fits) (at-loop .loop .inv .1) _ (c .before .before .before .read .ensures) _ (c .before .tag-agrees .ensures) (c .if2 .taken)
 
 rest-requires : tie.Need-rest-requires Inv-loop μ-loop
 rest-requires c κs = search needs
 
 add-from : tie.Need-add-from Inv-loop μ-loop
-add-from c = record { fits = omega (arith, first-some (tagsOf (c .before .before .before .before .before .before .before .loop .rest .low) (c .before .before .before .before .before .before .before .loop .rest .high)) _ (c .before .before .before .before .before .before .first .ensures) (c .before .before .before .before .before .if1 .taken), c .before .before .before .before .before .before .before .loop .inv .1) }
+add-from c =
+    let at-loop = c .before .before .before .before .before .before .before in
+    let at-first = c .before .before .before .before .before .before in
+    record { fits = omega (arith, first-some (tagsOf (at-loop .loop .rest .low) (at-loop .loop .rest .high)) _ (at-first .first .ensures) (c .before .before .before .before .before .if1 .taken), at-loop .loop .inv .1) }
 
 loop-less : tie.Need-loop-less Inv-loop μ-loop
-loop-less c = omega (arith, rest-fewer (tagsOf (c .before .before .before .before .before .before .before .loop .rest .low) (c .before .before .before .before .before .before .before .loop .rest .high)) _ _ (c .before .before .before .before .before .before .first .ensures) (c .before .before .before .before .before .if1 .taken) (c .rest .ensures))
+loop-less c =
+    let at-loop = c .before .before .before .before .before .before .before in
+    let at-first = c .before .before .before .before .before .before in
+    omega (arith, rest-fewer (tagsOf (at-loop .loop .rest .low) (at-loop .loop .rest .high)) _ _ (at-first .first .ensures) (c .before .before .before .before .before .if1 .taken) (c .rest .ensures))
 
 loop-again : tie.Need-loop-again Inv-loop μ-loop
-loop-again c = (agree-again _ _ _ (first-again _ _ _ _ (c .before .before .before .first2 .ensures) (c .before .before .before .before .before .before .first .ensures) (c .before .before .before .before .before .if1 .taken) (c .rest .ensures)) _ _ _ _ (c .before .before .before .before .before .before .before .loop .inv .0) (λ i. c .before .before .before .before .before .before .before .before .shared-slice-known2 .given i .fits) (c .before .before .before .before .before .before .before .loop .inv .1) _ (c .before .before .before .before .read .ensures) _ (c .before .before .tag-agrees .ensures) (c .before .if2 .left), omega (arith, rest-fewer (tagsOf (c .before .before .before .before .before .before .before .loop .rest .low) (c .before .before .before .before .before .before .before .loop .rest .high)) _ _ (c .before .before .before .before .before .before .first .ensures) (c .before .before .before .before .before .if1 .taken) (c .rest .ensures), c .before .before .before .before .before .before .before .loop .inv .1))
+loop-again c =
+    let at-shared-slice-known2 = c .before .before .before .before .before .before .before .before in
+    let at-loop = c .before .before .before .before .before .before .before in
+    let at-first = c .before .before .before .before .before .before in
+    (agree-again _ _ _ (first-again _ _ _ _ (c .before .before .before .first2 .ensures) (at-first .first .ensures) (c .before .before .before .before .before .if1 .taken) (c .rest .ensures)) _ _ _ _ (at-loop .loop .inv .0) (λ i. at-shared-slice-known2 .shared-slice-known2 .given i .fits) (at-loop .loop .inv .1) _ (c .before .before .before .before .read .ensures) _ (c .before .before .tag-agrees .ensures) (c .before .if2 .left), omega (arith, rest-fewer (tagsOf (at-loop .loop .rest .low) (at-loop .loop .rest .high)) _ _ (at-first .first .ensures) (c .before .before .before .before .before .if1 .taken) (c .rest .ensures), at-loop .loop .inv .1))
 
 returns-2 : tie.Need-returns-2 Inv-loop μ-loop
 unfolding membersAt

@@ -2,14 +2,14 @@
 -- Assumes nothing.
 use borrow.Author.Needs.{needs}
 use native.Mathlib.Omega.{arith}
-use mathlib.Core.Path.{_≡_, refl, sym, _∙_}
+use mathlib.Core.Path.{_≡_}
 use Prim.Native.Nat.{_+_, _-_, _*_, _≤_}
 use native.Mathlib.Nat.{zero-add, add-zero, sub-zero}
 use denote.Ref.{now}
 use lib.ListN.{drop}
 use Rattle.store.specs.Slots.{slotWidth, slots}
 use Rattle.versioned_group_data.specs.Collected.{tagBits}
-use Rattle.versioned_group_data.proofs.Collects.{few, from-word, bit-low, bit-fits, bit-again, tags-none}
+use Rattle.versioned_group_data.proofs.CollectedTurns.{few, from-word, bit-low, bit-fits, bit-again, tags-none}
 use Rattle.versioned_group_data.proofs.collect.collect_tags.Statement.{statement}
 use Rattle.versioned_group_data.proofs.collect.collect_tags.Tie as tie
 

@@ -1,8 +1,7 @@
 -- `versioned_group_data::collect::set_words` meets its contract.
 -- Assumes nothing.
-use native.Mathlib.Omega.{arith}
 use borrow.Author.Needs.{needs}
-use Rattle.versioned_group_data.proofs.Answering.{two-words}
+use Rattle.versioned_group_data.proofs.CollectedGroups.{two-words}
 use Rattle.versioned_group_data.proofs.collect.set_words.Statement.{statement}
 use Rattle.versioned_group_data.proofs.collect.set_words.Tie as tie
 

@@ -2,8 +2,8 @@
 -- Assumes nothing.
 use native.Mathlib.Omega.{arith}
 use borrow.Author.Needs.{needs}
-use Rattle.group_slots.proofs.Holding.{packed-valid}
-use Rattle.versioned_group_data.proofs.CommittedValues.{erase-room, erase-some, erase-none}
+use Rattle.group_slots.proofs.GroupHolding.{packed-valid}
+use Rattle.versioned_group_data.proofs.CommittedEdits.{erase-room, erase-some, erase-none}
 use Rattle.versioned_group_data.proofs.commit.erase_committed.Statement.{statement}
 use Rattle.versioned_group_data.proofs.commit.erase_committed.Tie as tie
 
@@ -14,16 +14,25 @@ enum-known-i : tie.Need-enum-known-i
 enum-known-i c = search needs
 
 used-requires : tie.Need-used-requires
-used-requires c κs = packed-valid _ (c .before .before .before .before .before .before .before .pre)
+used-requires c κs =
+    let at-start = c .before .before .before .before .before .before .before in
+    packed-valid _ (at-start .pre)
 
 close-slots-requires : tie.Need-close-slots-requires
-close-slots-requires c κs = let h = erase-room _ (c .before .before .before .before .before .before .before .before .before .pre) _ _ _ (c .before .before .before .before .before .before .find-committed .ensures) _ (c .before .before .before .before .i .given .1) _ (c .before .used .ensures) in (omega (arith, h .0), omega (arith, h .1))
+close-slots-requires c κs =
+    let at-start = c .before .before .before .before .before .before .before .before .before in
+    let at-find-committed = c .before .before .before .before .before .before in
+    let h = erase-room _ (at-start .pre) _ _ _ (at-find-committed .find-committed .ensures) _ (c .before .before .before .before .i .given .1) _ (c .before .used .ensures) in (omega (arith, h .0), omega (arith, h .1))
 
 same-length : tie.Need-same-length
 same-length c = search needs
 
 returns : tie.Need-returns
-returns c = erase-some _ (c .before .before .before .before .before .before .before .before .before .before .before .before .pre) _ _ _ (c .before .before .before .before .before .before .before .before .before .find-committed .ensures) _ (c .before .before .before .before .before .before .before .i .given .1) _ (c .before .before .before .before .used .ensures) _ (c .before .before .close-slots .ensures)
+returns c =
+    let at-start = c .before .before .before .before .before .before .before .before .before .before .before .before in
+    let at-find-committed = c .before .before .before .before .before .before .before .before .before in
+    let at-i = c .before .before .before .before .before .before .before in
+    erase-some _ (at-start .pre) _ _ _ (at-find-committed .find-committed .ensures) _ (at-i .i .given .1) _ (c .before .before .before .before .used .ensures) _ (c .before .before .close-slots .ensures)
 
 enum-told : tie.Need-enum-told
 enum-told c = search needs

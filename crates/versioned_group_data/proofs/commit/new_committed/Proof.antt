@@ -1,7 +1,7 @@
 -- `versioned_group_data::commit::new_committed` meets its contract.
 -- Assumes nothing.
 use borrow.Author.Needs.{needs}
-use Rattle.versioned_group_data.proofs.Committing.{committed-built}
+use Rattle.versioned_group_data.proofs.CommitSteps.{committed-built}
 use Rattle.versioned_group_data.proofs.commit.new_committed.Statement.{statement}
 use Rattle.versioned_group_data.proofs.commit.new_committed.Tie as tie
 

@@ -1,7 +1,7 @@
 -- `versioned_group_data::commit::passes` meets its contract.
 -- Assumes nothing.
 use borrow.Author.Needs.{needs}
-use Rattle.versioned_group_data.proofs.Committing.{passes-there, passes-absent}
+use Rattle.versioned_group_data.proofs.CommitSteps.{passes-there, passes-absent}
 use Rattle.versioned_group_data.proofs.commit.passes.Statement.{statement}
 use Rattle.versioned_group_data.proofs.commit.passes.Tie as tie
 

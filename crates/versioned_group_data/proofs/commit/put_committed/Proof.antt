@@ -2,8 +2,8 @@
 -- Assumes nothing.
 use native.Mathlib.Omega.{arith}
 use borrow.Author.Needs.{needs}
-use Rattle.group_slots.proofs.Holding.{packed-valid}
-use Rattle.versioned_group_data.proofs.CommittedValues.{put-room, put-over, open-room, write-room, put-new}
+use Rattle.group_slots.proofs.GroupHolding.{packed-valid}
+use Rattle.versioned_group_data.proofs.CommittedEdits.{put-room, put-over, open-room, write-room, put-new}
 use Rattle.versioned_group_data.proofs.commit.put_committed.Statement.{statement}
 use Rattle.versioned_group_data.proofs.commit.put_committed.Tie as tie
 
@@ -17,31 +17,55 @@ enum-known-i : tie.Need-enum-known-i
 enum-known-i c = search needs
 
 write-slot-requires : tie.Need-write-slot-requires
-write-slot-requires c κs = put-room _ (c .before .before .before .before .before .before .before .before .before .pre .0) _ _ _ (c .before .before .before .before .before .find-committed .ensures) _ (c .before .before .before .i .given .1)
+write-slot-requires c κs =
+    let at-start = c .before .before .before .before .before .before .before .before .before in
+    put-room _ (at-start .pre .0) _ _ _ (c .before .before .before .before .before .find-committed .ensures) _ (c .before .before .before .i .given .1)
 
 same-length : tie.Need-same-length
 same-length c = search needs
 
 returns : tie.Need-returns
-returns c = put-over _ (c .before .before .before .before .before .before .before .before .before .before .before .before .pre .0) _ _ _ (c .before .before .before .before .before .before .before .before .find-committed .ensures) _ (c .before .before .before .before .before .before .i .given .1) _ _ (c .before .before .before .before .before .before .before .before .before .before .new-committed .ensures) _ (c .before .before .write-slot .ensures)
+returns c =
+    let at-start = c .before .before .before .before .before .before .before .before .before .before .before .before in
+    let at-new-committed = c .before .before .before .before .before .before .before .before .before .before in
+    let at-find-committed = c .before .before .before .before .before .before .before .before in
+    let at-i = c .before .before .before .before .before .before in
+    put-over _ (at-start .pre .0) _ _ _ (at-find-committed .find-committed .ensures) _ (at-i .i .given .1) _ _ (at-new-committed .new-committed .ensures) _ (c .before .before .write-slot .ensures)
 
 enum-known-i-2 : tie.Need-enum-known-i-2
 enum-known-i-2 c = search needs
 
 used-requires : tie.Need-used-requires
-used-requires c κs = packed-valid _ (c .before .before .before .before .before .before .before .before .pre .0)
+used-requires c κs =
+    let at-start = c .before .before .before .before .before .before .before .before in
+    packed-valid _ (at-start .pre .0)
 
 open-slots-requires : tie.Need-open-slots-requires
-open-slots-requires c κs = let h = open-room _ (c .before .before .before .before .before .before .before .before .before .before .pre .0) _ _ _ (c .before .before .before .before .before .before .find-committed .ensures) _ (c .before .before .before .before .i2 .given .1) _ (c .before .before .before .before .before .before .before .before .before .before .pre .1) _ (c .before .used .ensures) in (omega (arith, h .0), omega (arith, h .1))
+open-slots-requires c κs =
+    let at-start = c .before .before .before .before .before .before .before .before .before .before in
+    let at-find-committed = c .before .before .before .before .before .before in
+    let h = open-room _ (at-start .pre .0) _ _ _ (at-find-committed .find-committed .ensures) _ (c .before .before .before .before .i2 .given .1) _ (at-start .pre .1) _ (c .before .used .ensures) in (omega (arith, h .0), omega (arith, h .1))
 
 write-slot-requires-2 : tie.Need-write-slot-requires-2
-write-slot-requires-2 c κs = let h = write-room _ (c .before .before .before .before .before .before .before .before .before .before .before .before .before .before .before .pre .0) _ _ _ (c .before .before .before .before .before .before .before .before .before .before .before .find-committed .ensures) _ (c .before .before .before .before .before .before .before .before .before .i2 .given .1) _ (c .before .before .before .before .before .before .before .before .before .before .before .before .before .before .before .pre .1) _ (c .before .before .before .before .before .before .used .ensures) _ (c .before .before .before .s2 .given) in omega (arith, h .0, h .1)
+write-slot-requires-2 c κs =
+    let at-start = c .before .before .before .before .before .before .before .before .before .before .before .before .before .before .before in
+    let at-find-committed = c .before .before .before .before .before .before .before .before .before .before .before in
+    let at-i2 = c .before .before .before .before .before .before .before .before .before in
+    let at-used = c .before .before .before .before .before .before in
+    let h = write-room _ (at-start .pre .0) _ _ _ (at-find-committed .find-committed .ensures) _ (at-i2 .i2 .given .1) _ (at-start .pre .1) _ (at-used .used .ensures) _ (c .before .before .before .s2 .given) in omega (arith, h .0, h .1)
 
 same-length-2 : tie.Need-same-length-2
 same-length-2 c = search needs
 
 returns-2 : tie.Need-returns-2
-returns-2 c = put-new _ (c .before .before .before .before .before .before .before .before .before .before .before .before .before .before .before .before .before .before .pre .0) _ _ _ (c .before .before .before .before .before .before .before .before .before .before .before .before .before .before .find-committed .ensures) _ (c .before .before .before .before .before .before .before .before .before .before .before .before .i2 .given .1) _ (c .before .before .before .before .before .before .before .before .before .before .before .before .before .before .before .before .before .before .pre .1) _ (c .before .before .before .before .before .before .before .before .before .used .ensures) _ (c .before .before .before .before .before .before .before .open-slots .ensures) _ (c .before .before .before .before .before .before .before .before .before .before .before .before .before .before .before .before .new-committed .ensures) _ (c .before .before .write-slot2 .ensures)
+returns-2 c =
+    let at-start = c .before .before .before .before .before .before .before .before .before .before .before .before .before .before .before .before .before .before in
+    let at-new-committed = c .before .before .before .before .before .before .before .before .before .before .before .before .before .before .before .before in
+    let at-find-committed = c .before .before .before .before .before .before .before .before .before .before .before .before .before .before in
+    let at-i2 = c .before .before .before .before .before .before .before .before .before .before .before .before in
+    let at-used = c .before .before .before .before .before .before .before .before .before in
+    let at-open-slots = c .before .before .before .before .before .before .before in
+    put-new _ (at-start .pre .0) _ _ _ (at-find-committed .find-committed .ensures) _ (at-i2 .i2 .given .1) _ (at-start .pre .1) _ (at-used .used .ensures) _ (at-open-slots .open-slots .ensures) _ (at-new-committed .new-committed .ensures) _ (c .before .before .write-slot2 .ensures)
 
 pub put-committed-spec : {M : Type 1} → statement M
 put-committed-spec =

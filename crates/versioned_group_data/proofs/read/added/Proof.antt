@@ -1,7 +1,7 @@
 -- `versioned_group_data::read::added` meets its contract.
 -- Assumes nothing.
 use borrow.Author.Needs.{needs}
-use Rattle.versioned_group_data.proofs.Turns.{added-is}
+use Rattle.versioned_group_data.proofs.ReadTurns.{added-is}
 use Rattle.versioned_group_data.proofs.read.added.Statement.{statement}
 use Rattle.versioned_group_data.proofs.read.added.Tie as tie
 

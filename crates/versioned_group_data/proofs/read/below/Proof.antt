@@ -1,8 +1,8 @@
 -- `versioned_group_data::read::below` meets its contract.
 -- Assumes nothing.
 use borrow.Author.Needs.{needs}
-use Rattle.group_slots.proofs.Holding.{packed-valid}
-use Rattle.versioned_group_data.proofs.Starts.{start-is}
+use Rattle.group_slots.proofs.GroupHolding.{packed-valid}
+use Rattle.versioned_group_data.proofs.ReadStarts.{start-is}
 use Rattle.versioned_group_data.proofs.read.below.Statement.{statement}
 use Rattle.versioned_group_data.proofs.read.below.Tie as tie
 

@@ -2,7 +2,7 @@
 -- Assumes nothing.
 use native.Mathlib.Omega.{arith}
 use borrow.Author.Needs.{needs}
-use Rattle.versioned_group_data.proofs.Turns.{length-bound, counting-none, counting-some}
+use Rattle.versioned_group_data.proofs.ReadTurns.{length-bound, counting-none, counting-some}
 use Rattle.versioned_group_data.proofs.read.counting.Statement.{statement}
 use Rattle.versioned_group_data.proofs.read.counting.Tie as tie
 

@@ -1,7 +1,7 @@
 -- `versioned_group_data::read::dependency` meets its contract.
 -- Assumes nothing.
 use borrow.Author.Needs.{needs}
-use Rattle.versioned_group_data.proofs.Turns.{waits-index, waits-storage}
+use Rattle.versioned_group_data.proofs.ReadTurns.{waits-index, waits-storage}
 use Rattle.versioned_group_data.proofs.read.dependency.Statement.{statement}
 use Rattle.versioned_group_data.proofs.read.dependency.Tie as tie
 

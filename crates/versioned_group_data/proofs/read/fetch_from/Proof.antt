@@ -7,15 +7,15 @@ use mathlib.Core.Bool.{_||_}
 use Rattle.store.specs.Slots.{held}
 use Rattle.versioned_group_data.specs.Sizes.{firstOf}
 use Rattle.versioned_group_data.specs.Down.{itemsAt}
-use Rattle.versioned_group_data.specs.Seen.{baseAt, Readable}
-use Rattle.versioned_group_data.proofs.Turns.{here-few, readable-on, based-on, fetch-over, fetch-end, fetch-found, fetch-on}
+use Rattle.versioned_group_data.specs.Seen.{meetsBase, Readable}
+use Rattle.versioned_group_data.proofs.ReadTurns.{here-few, readable-on, based-on, fetch-over, fetch-end, fetch-found, fetch-on}
 use Rattle.versioned_group_data.proofs.read.fetch_from.Statement.{statement}
 use Rattle.versioned_group_data.proofs.read.fetch_from.Tie as tie
 
 abbrev Inv-loop : tie.InvT-loop
 Inv-loop s key tag i based₀ j₀ based j =
     Readable key j (held s)
-    × (baseAt key i (held s) ≡ (based || baseAt key j (held s)))
+    × (meetsBase key i (held s) ≡ (based || meetsBase key j (held s)))
     × (firstOf tag (itemsAt key i (held s)) ≡ firstOf tag (itemsAt key j (held s)))
 
 abbrev μ-loop : tie.MeasureT-loop
@@ -46,7 +46,9 @@ member-output-requires : tie.Need-member-output-requires Inv-loop μ-loop
 member-output-requires c κs = here-few _ _ _ (c .before .before .before .before .loop-test .taken) (c .before .before .before .before .before .loop .inv .0)
 
 returns-2 : tie.Need-returns-2 Inv-loop μ-loop
-returns-2 c = fetch-found _ _ _ _ _ (c .before .before .before .before .before .before .loop .based) (c .before .before .before .before .before .before .loop .inv .1) (c .before .before .before .before .before .before .loop .inv .2) (c .before .before .before .before .before .loop-test .taken) (c .before .before .before .before .before .before .loop .inv .0) _ (c .before .before .before .before .word .ensures) (c .before .before .before .if1 .left) _ (c .before .before .word2 .ensures) (c .before .if2 .taken) _ (c .member-output .ensures)
+returns-2 c =
+    let at-loop = c .before .before .before .before .before .before in
+    fetch-found _ _ _ _ _ (at-loop .loop .based) (at-loop .loop .inv .1) (at-loop .loop .inv .2) (c .before .before .before .before .before .loop-test .taken) (at-loop .loop .inv .0) _ (c .before .before .before .before .word .ensures) (c .before .before .before .if1 .left) _ (c .before .before .word2 .ensures) (c .before .if2 .taken) _ (c .member-output .ensures)
 
 word-requires-3 : tie.Need-word-requires-3 Inv-loop μ-loop
 word-requires-3 c κs = (here-few _ _ _ (c .before .before .before .before .loop-test .taken) (c .before .before .before .before .before .loop .inv .0), omega arith)
@@ -58,7 +60,10 @@ loop-less : tie.Need-loop-less Inv-loop μ-loop
 loop-less c = search needs
 
 loop-again : tie.Need-loop-again Inv-loop μ-loop
-loop-again c = (readable-on _ _ _ (c .before .before .before .before .before .before .loop-test .taken) (c .before .before .before .before .before .before .before .loop .inv .0) _ (c .before .before .before .before .before .word .ensures) (c .before .before .before .before .if1 .left), based-on _ _ _ (c .before .before .before .before .before .before .loop-test .taken) (c .before .before .before .before .before .before .before .loop .inv .0) _ (c .before .before .before .before .before .word .ensures) (c .before .before .before .before .if1 .left) _ (c .before .before .before .before .before .before .before .loop .based) _ _ (c .before .before .before .before .before .before .before .loop .inv .1) (c .before .word3 .ensures) (c .with-base .ensures), fetch-on _ _ _ _ _ (c .before .before .before .before .before .before .before .loop .based) (c .before .before .before .before .before .before .before .loop .inv .1) (c .before .before .before .before .before .before .before .loop .inv .2) (c .before .before .before .before .before .before .loop-test .taken) (c .before .before .before .before .before .before .before .loop .inv .0) _ (c .before .before .before .before .before .word .ensures) (c .before .before .before .before .if1 .left) _ (c .before .before .before .word2 .ensures) (c .before .before .if2 .left))
+loop-again c =
+    let at-loop = c .before .before .before .before .before .before .before in
+    let at-loop-test = c .before .before .before .before .before .before in
+    (readable-on _ _ _ (at-loop-test .loop-test .taken) (at-loop .loop .inv .0) _ (c .before .before .before .before .before .word .ensures) (c .before .before .before .before .if1 .left), based-on _ _ _ (at-loop-test .loop-test .taken) (at-loop .loop .inv .0) _ (c .before .before .before .before .before .word .ensures) (c .before .before .before .before .if1 .left) _ (at-loop .loop .based) _ _ (at-loop .loop .inv .1) (c .before .word3 .ensures) (c .with-base .ensures), fetch-on _ _ _ _ _ (at-loop .loop .based) (at-loop .loop .inv .1) (at-loop .loop .inv .2) (at-loop-test .loop-test .taken) (at-loop .loop .inv .0) _ (c .before .before .before .before .before .word .ensures) (c .before .before .before .before .if1 .left) _ (c .before .before .before .word2 .ensures) (c .before .before .if2 .left))
 
 none-output-requires-2 : tie.Need-none-output-requires-2 Inv-loop μ-loop
 none-output-requires-2 c κs = search needs

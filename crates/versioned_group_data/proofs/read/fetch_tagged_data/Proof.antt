@@ -1,7 +1,7 @@
 -- `versioned_group_data::read::fetch_tagged_data` meets its contract.
 -- Assumes nothing.
 use borrow.Author.Needs.{needs}
-use Rattle.versioned_group_data.proofs.Starts.{start-readable, fetch-read}
+use Rattle.versioned_group_data.proofs.ReadStarts.{start-readable, fetch-read}
 use Rattle.versioned_group_data.proofs.read.fetch_tagged_data.Statement.{statement}
 use Rattle.versioned_group_data.proofs.read.fetch_tagged_data.Tie as tie
 

@@ -1,7 +1,7 @@
 -- `versioned_group_data::read::get_group_size` meets its contract.
 -- Assumes nothing.
 use borrow.Author.Needs.{needs}
-use Rattle.versioned_group_data.proofs.Starts.{start-readable, size-read}
+use Rattle.versioned_group_data.proofs.ReadStarts.{start-readable, size-read}
 use Rattle.versioned_group_data.proofs.read.get_group_size.Statement.{statement}
 use Rattle.versioned_group_data.proofs.read.get_group_size.Tie as tie
 

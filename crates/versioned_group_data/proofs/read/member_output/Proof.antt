@@ -2,8 +2,8 @@
 -- Assumes nothing.
 use native.Mathlib.Omega.{arith}
 use borrow.Author.Needs.{needs}
-use Rattle.store.proofs.Words.{slot-inside}
-use Rattle.versioned_group_data.proofs.Turns.{value-inside, output-estimate, output-value}
+use Rattle.store.proofs.StoreWords.{slot-inside}
+use Rattle.versioned_group_data.proofs.ReadTurns.{value-inside, output-estimate, output-value}
 use Rattle.versioned_group_data.proofs.read.member_output.Statement.{statement}
 use Rattle.versioned_group_data.proofs.read.member_output.Tie as tie
 
@@ -26,13 +26,19 @@ word-requires-3 : tie.Need-word-requires-3
 word-requires-3 c κs = search needs
 
 mul-read : tie.Need-mul-read
-mul-read c = omega (arith, slot-inside _ _ (c .before .before .before .before .before .before .pre))
+mul-read c =
+    let at-start = c .before .before .before .before .before .before in
+    omega (arith, slot-inside _ _ (at-start .pre))
 
 add-read : tie.Need-add-read
-add-read c = omega (arith, slot-inside _ _ (c .before .before .before .before .before .before .pre))
+add-read c =
+    let at-start = c .before .before .before .before .before .before in
+    omega (arith, slot-inside _ _ (at-start .pre))
 
 read-requires : tie.Need-read-requires
-read-requires c κs = value-inside _ _ (c .before .before .before .before .before .before .pre)
+read-requires c κs =
+    let at-start = c .before .before .before .before .before .before in
+    value-inside _ _ (at-start .pre)
 
 returns-2 : tie.Need-returns-2
 returns-2 c = output-value _ _ _ (c .before .before .before .word2 .ensures) _ (c .before .before .before .before .before .word .ensures) _ (c .before .before .before .before .from-word .ensures) (c .before .before .if1 .left) _ (c .before .word3 .ensures) _ (c .read .ensures)

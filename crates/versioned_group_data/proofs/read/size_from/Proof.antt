@@ -5,19 +5,20 @@ use native.Mathlib.Omega.{arith}
 use mathlib.Core.Path.{_≡_, refl}
 use mathlib.Core.Bool.{_||_}
 use lib.ListN.{replicate}
+use Rattle.types.specs.Response.{mostTags}
 use Rattle.store.specs.Slots.{held}
 use Rattle.versioned_group_data.specs.Sizes.{start, tally, Bounded}
 use Rattle.versioned_group_data.specs.Down.{itemsAt}
-use Rattle.versioned_group_data.specs.Seen.{baseAt, Readable, tallyOf}
-use Rattle.versioned_group_data.proofs.Turns.{here-few, fine-here, readable-on, based-on, start-tally, start-bounded, size-over, size-end, size-on}
+use Rattle.versioned_group_data.specs.Seen.{meetsBase, Readable, tallyOf}
+use Rattle.versioned_group_data.proofs.ReadTurns.{here-few, fine-here, readable-on, based-on, start-tally, start-bounded, size-over, size-end, size-on}
 use Rattle.versioned_group_data.proofs.read.size_from.Statement.{statement}
 use Rattle.versioned_group_data.proofs.read.size_from.Tie as tie
 
 abbrev Inv-loop : tie.InvT-loop
 Inv-loop s key i seen₀ t₀ based₀ j₀ seen t based j =
     Readable key j (held s)
-    × (baseAt key i (held s) ≡ (based || baseAt key j (held s)))
-    × (tally (replicate 64 0) start (itemsAt key i (held s)) ≡ tally seen (tallyOf t) (itemsAt key j (held s)))
+    × (meetsBase key i (held s) ≡ (based || meetsBase key j (held s)))
+    × (tally (replicate mostTags 0) start (itemsAt key i (held s)) ≡ tally seen (tallyOf t) (itemsAt key j (held s)))
     × Bounded seen (tallyOf t)
 
 abbrev μ-loop : tie.MeasureT-loop
@@ -48,13 +49,19 @@ slice-aggregate-count-slot : tie.Need-slice-aggregate-count-slot Inv-loop μ-loo
 slice-aggregate-count-slot c = search needs
 
 count-slot-requires : tie.Need-count-slot-requires Inv-loop μ-loop
-count-slot-requires c κs = (here-few _ _ _ (c .before .before .before .before .before .loop-test .taken) (c .before .before .before .before .before .before .loop .inv .0), (c .before .before .before .before .before .before .loop .inv .3, fine-here _ _ _ (c .before .before .before .before .before .loop-test .taken) (c .before .before .before .before .before .before .loop .inv .0) _ (c .before .before .before .before .word .ensures) (c .before .before .before .if1 .left)))
+count-slot-requires c κs =
+    let at-loop = c .before .before .before .before .before .before in
+    (here-few _ _ _ (c .before .before .before .before .before .loop-test .taken) (at-loop .loop .inv .0), (at-loop .loop .inv .3, fine-here _ _ _ (c .before .before .before .before .before .loop-test .taken) (at-loop .loop .inv .0) _ (c .before .before .before .before .word .ensures) (c .before .before .before .if1 .left)))
 
 loop-less : tie.Need-loop-less Inv-loop μ-loop
 loop-less c = search needs
 
 loop-again : tie.Need-loop-again Inv-loop μ-loop
-loop-again c = (readable-on _ _ _ (c .before .before .before .before .before .before .before .loop-test .taken) (c .before .before .before .before .before .before .before .before .loop .inv .0) _ (c .before .before .before .before .before .before .word .ensures) (c .before .before .before .before .before .if1 .left), based-on _ _ _ (c .before .before .before .before .before .before .before .loop-test .taken) (c .before .before .before .before .before .before .before .before .loop .inv .0) _ (c .before .before .before .before .before .before .word .ensures) (c .before .before .before .before .before .if1 .left) _ (c .before .before .before .before .before .before .before .before .loop .based) _ _ (c .before .before .before .before .before .before .before .before .loop .inv .1) (c .before .before .before .before .word2 .ensures) (c .before .before .before .with-base .ensures), size-on _ _ _ _ (c .before .before .before .before .before .before .before .before .loop .based) (c .before .before .before .before .before .before .before .before .loop .inv .1) _ _ (c .before .before .before .before .before .before .before .before .loop .inv .2) (c .before .before .before .before .before .before .before .loop-test .taken) (c .before .before .before .before .before .before .before .before .loop .inv .0) _ (c .before .before .before .before .before .before .word .ensures) (c .before .before .before .before .before .if1 .left) _ _ (c .before .count-slot .ensures), c .before .count-slot .ensures .bounded)
+loop-again c =
+    let at-loop = c .before .before .before .before .before .before .before .before in
+    let at-loop-test = c .before .before .before .before .before .before .before in
+    let at-word = c .before .before .before .before .before .before in
+    (readable-on _ _ _ (at-loop-test .loop-test .taken) (at-loop .loop .inv .0) _ (at-word .word .ensures) (c .before .before .before .before .before .if1 .left), based-on _ _ _ (at-loop-test .loop-test .taken) (at-loop .loop .inv .0) _ (at-word .word .ensures) (c .before .before .before .before .before .if1 .left) _ (at-loop .loop .based) _ _ (at-loop .loop .inv .1) (c .before .before .before .before .word2 .ensures) (c .before .before .before .with-base .ensures), size-on _ _ _ _ (at-loop .loop .based) (at-loop .loop .inv .1) _ _ (at-loop .loop .inv .2) (at-loop-test .loop-test .taken) (at-loop .loop .inv .0) _ (at-word .word .ensures) (c .before .before .before .before .before .if1 .left) _ _ (c .before .count-slot .ensures), c .before .count-slot .ensures .bounded)
 
 size-output-requires-2 : tie.Need-size-output-requires-2 Inv-loop μ-loop
 size-output-requires-2 c κs = search needs

@@ -2,7 +2,7 @@
 -- Assumes nothing.
 use borrow.Author.Needs.{needs}
 use borrow.Author.Tests.{not-true, not-false}
-use Rattle.versioned_group_data.proofs.Turns.{size-unbased, size-waits, size-counted}
+use Rattle.versioned_group_data.proofs.ReadTurns.{size-unbased, size-waits, size-counted}
 use Rattle.versioned_group_data.proofs.read.size_output.Statement.{statement}
 use Rattle.versioned_group_data.proofs.read.size_output.Tie as tie
 

@@ -1,6 +1,6 @@
 -- `versioned_group_data::read::waiting` meets its contract.
 -- Assumes nothing.
-use Rattle.versioned_group_data.proofs.Turns.{waiting-lower, waiting-same}
+use Rattle.versioned_group_data.proofs.ReadTurns.{waiting-lower, waiting-same}
 use Rattle.versioned_group_data.proofs.read.waiting.Statement.{statement}
 use Rattle.versioned_group_data.proofs.read.waiting.Tie as tie
 

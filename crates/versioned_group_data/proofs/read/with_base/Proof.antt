@@ -1,7 +1,7 @@
 -- `versioned_group_data::read::with_base` meets its contract.
 -- Assumes nothing.
 use borrow.Author.Needs.{needs}
-use Rattle.versioned_group_data.proofs.Turns.{with-base-false}
+use Rattle.versioned_group_data.proofs.ReadTurns.{with-base-false}
 use Rattle.versioned_group_data.proofs.read.with_base.Statement.{statement}
 use Rattle.versioned_group_data.proofs.read.with_base.Tie as tie
 

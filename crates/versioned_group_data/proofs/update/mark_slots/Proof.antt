@@ -7,7 +7,7 @@ use Prim.Native.Nat.{_-_, _≤_}
 use denote.Ref.{now}
 use lib.ListN.{length}
 use Rattle.store.specs.Slots.{slotsIn}
-use Rattle.versioned_group_data.proofs.Marking.{markedTo, marked-none, marked-all, mark-turn}
+use Rattle.versioned_group_data.proofs.UpdateMarking.{markedTo, marked-none, marked-all, mark-turn}
 use Rattle.versioned_group_data.proofs.update.mark_slots.Statement.{statement}
 use Rattle.versioned_group_data.proofs.update.mark_slots.Tie as tie
 
@@ -38,11 +38,13 @@ loop-less : tie.Need-loop-less Inv-loop μ-loop
 loop-less c = search needs
 
 loop-again : tie.Need-loop-again Inv-loop μ-loop
-loop-again c = (
-  omega arith,
-  mark-turn (c .before .before .before .before .before .before .before .before .args .i) (c .before .before .before .before .before .before .loop .j) (now (c .before .before .before .before .before .before .before .before .args .s)) (omega arith) _ _ _ (c .before .before .before .before .before .before .loop .inv .1) (c .before .before .before .before .before .before .loop .inv .2) (c .before .before .before .word .ensures) (c .before .before .set-word .ensures),
-  search needs,
-)
+loop-again c =
+    let at-start = c .before .before .before .before .before .before .before .before in
+    let at-loop = c .before .before .before .before .before .before in (
+      omega arith,
+      mark-turn (at-start .args .i) (at-loop .loop .j) (now (at-start .args .s)) (omega arith) _ _ _ (at-loop .loop .inv .1) (at-loop .loop .inv .2) (c .before .before .before .word .ensures) (c .before .before .set-word .ensures),
+      search needs,
+    )
 
 same-length : tie.Need-same-length Inv-loop μ-loop
 same-length c = search needs

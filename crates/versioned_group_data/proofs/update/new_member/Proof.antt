@@ -2,7 +2,7 @@
 -- Assumes nothing.
 use borrow.Author.Needs.{needs}
 use native.Mathlib.Numerals.{add-one}
-use Rattle.versioned_group_data.proofs.Writing.{member-built}
+use Rattle.versioned_group_data.proofs.UpdateBuilding.{member-built}
 use Rattle.versioned_group_data.proofs.update.new_member.Statement.{statement}
 use Rattle.versioned_group_data.proofs.update.new_member.Tie as tie
 

@@ -1,7 +1,7 @@
 -- `versioned_group_data::update::new_part` meets its contract.
 -- Assumes nothing.
 use borrow.Author.Needs.{needs}
-use Rattle.versioned_group_data.proofs.Writing.{part-built}
+use Rattle.versioned_group_data.proofs.UpdateBuilding.{part-built}
 use Rattle.versioned_group_data.proofs.update.new_part.Statement.{statement}
 use Rattle.versioned_group_data.proofs.update.new_part.Tie as tie
 

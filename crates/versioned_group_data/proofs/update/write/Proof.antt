@@ -1,8 +1,8 @@
 -- `versioned_group_data::update::write` meets its contract.
 -- Assumes nothing.
 use borrow.Author.Needs.{needs}
-use Rattle.types.proofs.Shifted.{shifted-word}
-use Rattle.versioned_group_data.proofs.Reporting.{write-refused, write-outside, write-done}
+use Rattle.types.proofs.IndexLaws.{shifted-word}
+use Rattle.versioned_group_data.proofs.UpdateReports.{write-refused, write-outside, write-done}
 use Rattle.versioned_group_data.proofs.update.write.Statement.{statement}
 use Rattle.versioned_group_data.proofs.update.write.Tie as tie
 
@@ -20,21 +20,26 @@ same-length c = search needs
 
 returns : tie.Need-returns
 returns c =
-    write-refused _ _ _ _ (shifted-word _ _ (c .before .before .before .before .before .before .before .new .ensures)) _ _ _ _ _ (c .before .before .before .before .before .writes-outside .ensures) _ _ (c .before .before .before .put-update .ensures) (c .if1 .taken)
+    let at-new = c .before .before .before .before .before .before .before in
+    write-refused _ _ _ _ (shifted-word _ _ (at-new .new .ensures)) _ _ _ _ _ (c .before .before .before .before .before .writes-outside .ensures) _ _ (c .before .before .before .put-update .ensures) (c .if1 .taken)
 
 same-length-2 : tie.Need-same-length-2
 same-length-2 c = search needs
 
 returns-2 : tie.Need-returns-2
 returns-2 c =
-    write-outside _ _ _ _ (shifted-word _ _ (c .before .before .before .before .before .before .before .before .new .ensures)) _ _ _ _ _ (c .before .before .before .before .before .before .writes-outside .ensures) _ _ (c .before .before .before .before .put-update .ensures) (c .before .if1 .left) (c .if2 .taken)
+    let at-new = c .before .before .before .before .before .before .before .before in
+    let at-writes-outside = c .before .before .before .before .before .before in
+    write-outside _ _ _ _ (shifted-word _ _ (at-new .new .ensures)) _ _ _ _ _ (at-writes-outside .writes-outside .ensures) _ _ (c .before .before .before .before .put-update .ensures) (c .before .if1 .left) (c .if2 .taken)
 
 same-length-3 : tie.Need-same-length-3
 same-length-3 c = search needs
 
 returns-3 : tie.Need-returns-3
 returns-3 c =
-    write-done _ _ _ _ (shifted-word _ _ (c .before .before .before .before .before .before .before .before .new .ensures)) _ _ _ _ _ (c .before .before .before .before .before .before .writes-outside .ensures) _ _ (c .before .before .before .before .put-update .ensures) (c .before .if1 .left) (c .if2 .left)
+    let at-new = c .before .before .before .before .before .before .before .before in
+    let at-writes-outside = c .before .before .before .before .before .before in
+    write-done _ _ _ _ (shifted-word _ _ (at-new .new .ensures)) _ _ _ _ _ (at-writes-outside .writes-outside .ensures) _ _ (c .before .before .before .before .put-update .ensures) (c .before .if1 .left) (c .if2 .left)
 
 pub write-spec : {M : Type 1} → statement M
 write-spec =

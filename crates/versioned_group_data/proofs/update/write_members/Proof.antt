@@ -10,7 +10,7 @@ use Rattle.types.specs.Value.{valueWidth}
 use Rattle.request.specs.Set.{tagsOf}
 use Rattle.store.specs.Slots.{slotsIn}
 use Rattle.versioned_group_data.specs.Members.{membersAt}
-use Rattle.versioned_group_data.proofs.Writing.{first-some, first-again, rest-fewer, writeRest, write-turn, members-built}
+use Rattle.versioned_group_data.proofs.UpdateBuilding.{first-some, first-again, rest-fewer, writeRest, write-turn, members-built}
 use Rattle.versioned_group_data.proofs.update.write_members.Statement.{statement}
 use Rattle.versioned_group_data.proofs.update.write_members.Tie as tie
 
@@ -43,29 +43,41 @@ new-member-requires c κs = (
 write-slot-requires : tie.Need-write-slot-requires Inv-loop μ-loop
 unfolding slotsIn
 write-slot-requires c κs =
-    omega (arith, first-some (tagsOf (c .before .before .before .before .before .before .loop .rest .low) (c .before .before .before .before .before .before .loop .rest .high)) _ (c .before .before .before .before .before .first .ensures) (c .before .before .before .before .if1 .taken), c .before .before .before .before .before .before .loop .inv .1, c .before .before .before .before .before .before .loop .inv .3)
+    let at-loop = c .before .before .before .before .before .before in
+    omega (arith, first-some (tagsOf (at-loop .loop .rest .low) (at-loop .loop .rest .high)) _ (c .before .before .before .before .before .first .ensures) (c .before .before .before .before .if1 .taken), at-loop .loop .inv .1, at-loop .loop .inv .3)
 
 rest-requires : tie.Need-rest-requires Inv-loop μ-loop
 rest-requires c κs = search needs
 
 add-j : tie.Need-add-j Inv-loop μ-loop
 unfolding slotsIn
-add-j c = record { fits = omega (arith, c .before .before .before .before .before .before .before .before .before .before .loop .inv .1) }
+add-j c =
+    let at-loop = c .before .before .before .before .before .before .before .before .before .before in
+    record { fits = omega (arith, at-loop .loop .inv .1) }
 
 add-from : tie.Need-add-from Inv-loop μ-loop
 add-from c =
     record { fits = omega (arith, first-some (tagsOf (c .before .before .before .before .before .before .before .before .before .before .loop .rest .low) (c .before .before .before .before .before .before .before .before .before .before .loop .rest .high)) _ (c .before .before .before .before .before .before .before .before .before .first .ensures) (c .before .before .before .before .before .before .before .before .if1 .taken), c .before .before .before .before .before .before .before .before .before .before .loop .inv .2) }
 
 loop-less : tie.Need-loop-less Inv-loop μ-loop
-loop-less c = omega (arith, rest-fewer (tagsOf (c .before .before .before .before .before .before .before .before .before .before .loop .rest .low) (c .before .before .before .before .before .before .before .before .before .before .loop .rest .high)) _ _ (c .before .before .before .before .before .before .before .before .before .first .ensures) (c .before .before .before .before .before .before .before .before .if1 .taken) (c .rest .ensures))
+loop-less c =
+    let at-loop = c .before .before .before .before .before .before .before .before .before .before in
+    let at-first = c .before .before .before .before .before .before .before .before .before in
+    let at-if1 = c .before .before .before .before .before .before .before .before in
+    omega (arith, rest-fewer (tagsOf (at-loop .loop .rest .low) (at-loop .loop .rest .high)) _ _ (at-first .first .ensures) (at-if1 .if1 .taken) (c .rest .ensures))
 
 loop-again : tie.Need-loop-again Inv-loop μ-loop
 loop-again c =
-    let fewer = rest-fewer (tagsOf (c .before .before .before .before .before .before .before .before .before .before .loop .rest .low) (c .before .before .before .before .before .before .before .before .before .before .loop .rest .high)) _ _ (c .before .before .before .before .before .before .before .before .before .first .ensures) (c .before .before .before .before .before .before .before .before .if1 .taken) (c .rest .ensures) in (
-      write-turn _ _ _ _ _ _ _ _ _ _ _ _ (first-again _ _ _ _ (c .before .before .before .before .before .before .before .first2 .ensures) (c .before .before .before .before .before .before .before .before .before .first .ensures) (c .before .before .before .before .before .before .before .before .if1 .taken) (c .rest .ensures))
-          (c .before .before .before .before .before .before .new-member .ensures) (c .before .before .before .write-slot .ensures) _ (c .before .before .before .before .before .before .before .before .before .before .loop .inv .0),
-      omega (arith, fewer, c .before .before .before .before .before .before .before .before .before .before .loop .inv .1),
-      omega (arith, fewer, c .before .before .before .before .before .before .before .before .before .before .loop .inv .2),
+    let at-loop = c .before .before .before .before .before .before .before .before .before .before in
+    let at-first = c .before .before .before .before .before .before .before .before .before in
+    let at-if1 = c .before .before .before .before .before .before .before .before in
+    let at-first2 = c .before .before .before .before .before .before .before in
+    let at-new-member = c .before .before .before .before .before .before in
+    let fewer = rest-fewer (tagsOf (at-loop .loop .rest .low) (at-loop .loop .rest .high)) _ _ (at-first .first .ensures) (at-if1 .if1 .taken) (c .rest .ensures) in (
+      write-turn _ _ _ _ _ _ _ _ _ _ _ _ (first-again _ _ _ _ (at-first2 .first2 .ensures) (at-first .first .ensures) (at-if1 .if1 .taken) (c .rest .ensures))
+          (at-new-member .new-member .ensures) (c .before .before .before .write-slot .ensures) _ (at-loop .loop .inv .0),
+      omega (arith, fewer, at-loop .loop .inv .1),
+      omega (arith, fewer, at-loop .loop .inv .2),
       search needs,
     )
 

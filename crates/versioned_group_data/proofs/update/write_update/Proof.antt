@@ -4,7 +4,7 @@ use borrow.Author.Needs.{needs}
 use native.Mathlib.Omega.{arith}
 use Rattle.store.specs.Slots.{slotsIn}
 use Rattle.versioned_group_data.specs.Members.{membersAt}
-use Rattle.versioned_group_data.proofs.Writing.{update-built}
+use Rattle.versioned_group_data.proofs.UpdateBuilding.{update-built}
 use Rattle.versioned_group_data.proofs.update.write_update.Statement.{statement}
 use Rattle.versioned_group_data.proofs.update.write_update.Tie as tie
 
@@ -20,7 +20,9 @@ add-write-members c = search needs
 
 write-members-requires : tie.Need-write-members-requires
 unfolding slotsIn
-write-members-requires c κs = (omega arith, c .before .before .before .before .before .before .before .before .before .pre .1)
+write-members-requires c κs =
+    let at-start = c .before .before .before .before .before .before .before .before .before in
+    (omega arith, at-start .pre .1)
 
 same-length : tie.Need-same-length
 same-length c = search needs
@@ -28,7 +30,10 @@ same-length c = search needs
 returns : tie.Need-returns
 unfolding membersAt
 returns c =
-    update-built _ _ _ _ _ _ _ _ _ _ _ (c .before .before .before .before .before .before .before .before .before .new-part .ensures) (c .before .before .before .before .before .before .write-slot .ensures) (search needs) (omega arith) (c .before .before .before .before .before .before .before .before .before .before .before .before .pre .1) (c .before .before .write-members .ensures)
+    let at-start = c .before .before .before .before .before .before .before .before .before .before .before .before in
+    let at-new-part = c .before .before .before .before .before .before .before .before .before in
+    let at-write-slot = c .before .before .before .before .before .before in
+    update-built _ _ _ _ _ _ _ _ _ _ _ (at-new-part .new-part .ensures) (at-write-slot .write-slot .ensures) (search needs) (omega arith) (at-start .pre .1) (c .before .before .write-members .ensures)
 
 pub write-update-spec : {M : Type 1} → statement M
 write-update-spec =

@@ -10,8 +10,8 @@ use Rattle.request.specs.Set.{tagsOf, membersOf}
 use Rattle.model.specs.Rows.{find}
 use Rattle.model.specs.Group.{outside, membersIn}
 use Rattle.group_slots.specs.Layout.{groupsIn}
-use Rattle.versioned_group_data.proofs.Writing.{first-again, first-empty, rest-fewer}
-use Rattle.versioned_group_data.proofs.Reporting.{outside-there, outside-absent, outside-end}
+use Rattle.versioned_group_data.proofs.UpdateBuilding.{first-again, first-empty, rest-fewer}
+use Rattle.versioned_group_data.proofs.UpdateReports.{outside-there, outside-absent, outside-end}
 use Rattle.versioned_group_data.proofs.update.writes_outside.Statement.{statement}
 use Rattle.versioned_group_data.proofs.update.writes_outside.Tie as tie
 
@@ -40,7 +40,8 @@ enum-told c = search needs
 
 returns : tie.Need-returns Inv-loop μ-loop
 returns c =
-    outside-absent _ _ _ _ _ _ (first-again _ _ _ _ (c .before .before .before .first2 .ensures) (c .before .before .before .before .before .first .ensures) (c .before .before .before .before .if1 .taken) refl) _ (c .before .before .find-member .ensures) _ _ (c .before .before .before .before .before .before .loop .inv) (c .enum-told .given .1)
+    let at-loop = c .before .before .before .before .before .before in
+    outside-absent _ _ _ _ _ _ (first-again _ _ _ _ (c .before .before .before .first2 .ensures) (c .before .before .before .before .before .first .ensures) (c .before .before .before .before .if1 .taken) refl) _ (c .before .before .find-member .ensures) _ _ (at-loop .loop .inv) (c .enum-told .given .1)
 
 enum-told-2 : tie.Need-enum-told-2 Inv-loop μ-loop
 enum-told-2 c = search needs
@@ -49,11 +50,16 @@ rest-requires : tie.Need-rest-requires Inv-loop μ-loop
 rest-requires c κs = search needs
 
 loop-less : tie.Need-loop-less Inv-loop μ-loop
-loop-less c = omega (arith, rest-fewer (tagsOf (c .before .before .before .before .before .before .before .loop .rest .low) (c .before .before .before .before .before .before .before .loop .rest .high)) _ _ (c .before .before .before .before .before .before .first .ensures) (c .before .before .before .before .before .if1 .taken) (c .rest .ensures))
+loop-less c =
+    let at-loop = c .before .before .before .before .before .before .before in
+    let at-first = c .before .before .before .before .before .before in
+    omega (arith, rest-fewer (tagsOf (at-loop .loop .rest .low) (at-loop .loop .rest .high)) _ _ (at-first .first .ensures) (c .before .before .before .before .before .if1 .taken) (c .rest .ensures))
 
 loop-again : tie.Need-loop-again Inv-loop μ-loop
 loop-again c =
-    outside-there _ _ _ _ _ _ (first-again _ _ _ _ (c .before .before .before .before .first2 .ensures) (c .before .before .before .before .before .before .first .ensures) (c .before .before .before .before .before .if1 .taken) (c .rest .ensures)) _ (c .before .before .before .find-member .ensures) _ _ (c .before .before .before .before .before .before .before .loop .inv) (c .before .enum-told2 .given .1)
+    let at-loop = c .before .before .before .before .before .before .before in
+    let at-first = c .before .before .before .before .before .before in
+    outside-there _ _ _ _ _ _ (first-again _ _ _ _ (c .before .before .before .before .first2 .ensures) (at-first .first .ensures) (c .before .before .before .before .before .if1 .taken) (c .rest .ensures)) _ (c .before .before .before .find-member .ensures) _ _ (at-loop .loop .inv) (c .before .enum-told2 .given .1)
 
 returns-2 : tie.Need-returns-2 Inv-loop μ-loop
 returns-2 c = outside-end _ _ _ (first-empty _ _ _ (c .before .first .ensures) (c .if1 .left)) (c .before .before .loop .inv)

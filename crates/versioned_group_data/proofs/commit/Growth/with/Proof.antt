@@ -2,7 +2,7 @@
 -- Assumes nothing.
 use native.Mathlib.Omega.{arith}
 use borrow.Author.Needs.{needs}
-use Rattle.versioned_group_data.proofs.Committing.{one-fits, with-grown}
+use Rattle.versioned_group_data.proofs.CommitSteps.{one-fits, with-grown}
 use Rattle.versioned_group_data.proofs.commit.Growth.with.Statement.{statement}
 use Rattle.versioned_group_data.proofs.commit.Growth.with.Tie as tie
 
