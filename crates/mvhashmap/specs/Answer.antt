@@ -10,7 +10,8 @@ use Rattle.delta.specs.Delta.{deltaWords}
 use Rattle.delta.specs.Op.{exact}
 use Rattle.types.specs.Index.{wordOf}
 use Rattle.types.specs.ValueWithLayout.{wordsOf}
-use Rattle.types.specs.Response.{response}
+use Rattle.types.specs.Refusal.{layoutUnderDelta, noNumberUnderDelta}
+use Rattle.types.specs.Response.{response, resolvedKind, unresolvedKind, uninitializedKind, tagNotFoundKind, dependencyKind, applicationFailureKind, sizeKind}
 use Rattle.types.specs.declared.output.MVDataOutput.{MVDataOutput}
 use Rattle.types.specs.declared.output.MVDataOutput.the-variants as Data
 use Rattle.types.specs.declared.output.MVGroupOutput.{MVGroupOutput}
@@ -26,25 +27,25 @@ respond kind words = accept (response kind words) tt
 
 unfoldable pub outputRuling : MVDataOutput → Ruling Unit
 outputRuling (Data.Versioned at incarnation v) = accept (versionedAnswer (wordOf at) incarnation (wordsOf v)) tt
-outputRuling (Data.Resolved n) = respond 2 (digits 4 (valueOf n))
-outputRuling (Data.Unresolved op) = respond 3 (deltaWords (exact op))
-outputRuling Data.Uninitialized = respond 4 []
-outputRuling (Data.Dependency index) = respond 6 (index ∷ [])
-outputRuling Data.DeltaApplicationFailure = respond 7 []
-outputRuling Data.LayoutUnderDelta = refuse 9
-outputRuling Data.NoNumberUnderDelta = refuse 10
+outputRuling (Data.Resolved n) = respond resolvedKind (digits 4 (valueOf n))
+outputRuling (Data.Unresolved op) = respond unresolvedKind (deltaWords (exact op))
+outputRuling Data.Uninitialized = respond uninitializedKind []
+outputRuling (Data.Dependency index) = respond dependencyKind (index ∷ [])
+outputRuling Data.DeltaApplicationFailure = respond applicationFailureKind []
+outputRuling Data.LayoutUnderDelta = refuse layoutUnderDelta
+outputRuling Data.NoNumberUnderDelta = refuse noNumberUnderDelta
 
 unfoldable pub materializedRuling : Materialized → Ruling Unit
 materializedRuling (Refused n) = refuse n
-materializedRuling (Resolved n) = respond 2 (digits 4 (valueOf n))
-materializedRuling (Unresolved op) = respond 3 (deltaWords (exact op))
+materializedRuling (Resolved n) = respond resolvedKind (digits 4 (valueOf n))
+materializedRuling (Unresolved op) = respond unresolvedKind (deltaWords (exact op))
 
 unfoldable pub groupOutputRuling : MVGroupOutput → Ruling Unit
 groupOutputRuling (Group.Versioned at incarnation v) = accept (versionedAnswer (wordOf at) incarnation (wordsOf v)) tt
-groupOutputRuling (Group.Size members sum) = respond 8 (members ∷ sum ∷ [])
-groupOutputRuling Group.Uninitialized = respond 4 []
-groupOutputRuling Group.TagNotFound = respond 5 []
-groupOutputRuling (Group.Dependency index) = respond 6 (index ∷ [])
+groupOutputRuling (Group.Size members sum) = respond sizeKind (members ∷ sum ∷ [])
+groupOutputRuling Group.Uninitialized = respond uninitializedKind []
+groupOutputRuling Group.TagNotFound = respond tagNotFoundKind []
+groupOutputRuling (Group.Dependency index) = respond dependencyKind (index ∷ [])
 
 -- The number that an operation gives: "0 done", or a refusal.
 unfoldable pub doneRuling : ℕ → Ruling Unit

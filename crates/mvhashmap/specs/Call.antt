@@ -1,67 +1,92 @@
--- The call over both stores, on words: the result, both stores and the answer slice after it, refusals included.
+-- The call over both stores, on words: its result and every lent part after it, refusals included.
 -- 01: "The lowest number that applies is given; the call's result is then that number, with no answer words. An accepted call's result is 0."
 use mathlib.Core.Path.{_≡_}
 use mathlib.Core.Bool.{Bool, cond, _&&_}
-use mathlib.Core.List.{List, _++_}
+use mathlib.Core.List.{List}
 use Prim.Native.Nat.{ℕ}
-use lib.Dec.{ltb, eqb}
-use lib.ListN.{length, drop}
+use lib.Dec.{ltb}
+use lib.ListN.{length}
+use Rattle.types.specs.Refusal.{answerTooShort, damagedStore}
+use Rattle.types.specs.Response.{answerWidth}
 use Rattle.request.specs.Request.{refusalOf}
 use Rattle.store.specs.Slots.{slotsIn}
 use Rattle.model.specs.Data.{Ruling, refuse, accept}
-use Rattle.model.specs.Model.{Model, Slots, step}
+use Rattle.model.specs.Model.{Model, Fixed, firstOf, unlessRefused, step}
 use Rattle.versioned_data.specs.Layout as Data
 use Rattle.versioned_data.specs.Layout.{entriesIn, dataValid}
 use Rattle.group_slots.specs.Layout as Group
 use Rattle.group_slots.specs.Layout.{Groups, groupsIn, groupValid}
 use Rattle.versioned_group_data.specs.Ruled.{answerIn}
 
--- What a call leaves: its result, the two stores and the answer slice.
-pub record Called : Type 0 where
-  pub result : ℕ
+-- What is lent to every call of a history.
+pub record Stores : Type 0 where
   pub data-words : List ℕ
   pub group-words : List ℕ
+
+-- What is lent to one call: the stores, and the slice for its answer.
+pub record Lent : Type 0 where
+  pub stores : Stores
   pub out : List ℕ
 
--- "A refusal changes no word of either store or of the answer slice."
-unfoldable pub refusedBy : ℕ → List ℕ → List ℕ → List ℕ → Called
-refusedBy n d g out = record { result = n; data-words = d; group-words = g; out = out }
+abbrev pub stores : List ℕ → List ℕ → Stores
+stores d g = record { data-words = d; group-words = g }
 
--- What two stores hold, and the slots that they have.
-unfoldable pub modelIn : List ℕ → List ℕ → Model
-modelIn d g = record { entries = entriesIn d; updates = groupsIn g .updates; committed = groupsIn g .committed }
+abbrev pub lent : List ℕ → List ℕ → List ℕ → Lent
+lent d g out = record { stores = stores d g; out = out }
 
-unfoldable pub slotsOf : List ℕ → List ℕ → Slots
-slotsOf d g = record { data-slots = slotsIn (length d); group-slots = slotsIn (length g) }
+-- What a call leaves: its result, and what was lent to it.
+pub record Called : Type 0 where
+  pub result : ℕ
+  pub lent : Lent
 
+abbrev pub called : ℕ → Lent → Called
+called r l = record { result = r; lent = l }
+
+-- "5: range, pair or partner rule broken": in no store. This is what the inner call asks of its callers.
+unfoldable pub sound : Stores → Bool
+sound s = dataValid (s .data-words) && groupValid (s .group-words)
+
+-- What the stores hold, and what of them is fixed for a history: the slots that they have.
+unfoldable pub modelIn : Stores → Model
+modelIn s =
+    record {
+      entries = entriesIn (s .data-words);
+      updates = groupsIn (s .group-words) .updates;
+      committed = groupsIn (s .group-words) .committed;
+    }
+
+unfoldable pub fixedOf : Stores → Fixed
+fixedOf s = record { data-slots = slotsIn (length (s .data-words)); group-slots = slotsIn (length (s .group-words)) }
+
+-- Stores like these that hold a model.
 unfoldable pub groupsOf : Model → Groups
 groupsOf m = record { updates = m .updates; committed = m .committed }
 
-unfoldable pub calledBy : List ℕ → List ℕ → List ℕ → Ruling Model → Called
-calledBy d g out (refuse n) = refusedBy n d g out
-calledBy d g out (accept answer m) =
-    record {
-      result = 0;
-      data-words = Data.holding d (m .entries);
-      group-words = Group.holding g (groupsOf m);
-      out = answerIn answer out;
-    }
+unfoldable pub holding : Stores → Model → Stores
+holding s m = stores (Data.holding (s .data-words) (m .entries)) (Group.holding (s .group-words) (groupsOf m))
 
--- "5: range, pair or partner rule broken": either store
-unfoldable pub bothValid : List ℕ → List ℕ → Bool
-bothValid d g = dataValid d && groupValid g
+-- "1: answer under 451 words"
+unfoldable pub sliceRefusal : List ℕ → ℕ
+sliceRefusal out = cond (ltb (length out) answerWidth) answerTooShort 0
 
--- "1: answer under 451 words"; then 2, 3 and 4, which the request decides; then 5; then what the definition says.
-unfoldable pub callOf : List ℕ → List ℕ → List ℕ → List ℕ → Called
-callOf t d g out =
-    cond (ltb (length out) 451) (refusedBy 1 d g out)
-    (cond (eqb (refusalOf t) 0)
-    (cond (bothValid d g) (calledBy d g out (step (slotsOf d g) (modelIn d g) t)) (refusedBy 5 d g out))
-    (refusedBy (refusalOf t) d g out))
+unfoldable pub storeRefusal : Stores → ℕ
+storeRefusal s = cond (sound s) 0 damagedStore
+
+-- The refusals before the stores are asked anything: 1 by the slice; 2, 3 and 4 by the request; 5 by the stores' words.
+unfoldable pub earlyRefusal : List ℕ → Lent → ℕ
+earlyRefusal t l = firstOf (sliceRefusal (l .out)) (firstOf (refusalOf t) (storeRefusal (l .stores)))
+
+-- "A refusal changes no word of either store or of the answer slice."
+unfoldable pub refusedBy : ℕ → Lent → Called
+refusedBy n l = called n l
+
+unfoldable pub calledBy : Lent → Ruling Model → Called
+calledBy l (refuse n) = refusedBy n l
+calledBy l (accept answer m) = called 0 (record { stores = holding (l .stores) m; out = answerIn answer (l .out) })
+
+unfoldable pub callOf : List ℕ → Lent → Called
+callOf t l = calledBy l (unlessRefused (earlyRefusal t l) (step (fixedOf (l .stores)) (modelIn (l .stores)) t))
 
 -- A call keeps to it.
-pub record Calls (t d g o : List ℕ) (r : ℕ) (d-after g-after o-after : List ℕ) : Type 0 where
-  pub result : r ≡ callOf t d g o .result
-  pub data-words : d-after ≡ callOf t d g o .data-words
-  pub group-words : g-after ≡ callOf t d g o .group-words
-  pub out : o-after ≡ callOf t d g o .out
+pub record Calls (t : List ℕ) (before : Lent) (r : ℕ) (after : Lent) : Type 0 where
+  pub called : called r after ≡ callOf t before

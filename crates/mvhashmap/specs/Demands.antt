@@ -2,27 +2,26 @@
 use mathlib.Core.Path.{_≡_}
 use mathlib.Core.Bool.{true}
 use mathlib.Core.List.{List, map}
-use Prim.Native.Nat.{ℕ, _≤_}
-use lib.ListN.{replicate}
+use Prim.Native.Nat.{ℕ}
+use Rattle.types.specs.Refusal.{isResult}
 use Rattle.model.specs.Model.{empty}
 use Rattle.model.specs.Noninterference.{kept, keptTurns, quiet}
-use Rattle.mvhashmap.specs.Call.{refusedBy, callOf}
+use Rattle.mvhashmap.specs.Call.{Lent, refusedBy, callOf}
 use Rattle.mvhashmap.specs.Run.{Call, cleared, calls, callsBy, areWords, longEnough, turnsOn}
 
--- Demand 1: a request of any words and length, over any two lent stores and any answer slice, is answered, or refused by one of 01's numbers, and
--- a refusal changes no word of either store or of the answer slice.
-pub record TotalAt (t d g o : List ℕ) : Type 0 where
-  pub number : callOf t d g o .result ≤ 14
-  pub unchanged : (callOf t d g o .result ≡ 0 → ⊥) → callOf t d g o ≡ refusedBy (callOf t d g o .result) d g o
+-- Demand 1: a request of any words and length, over any lent parts, is answered, or refused by a number of 01's table, and a refusal changes no
+-- word of what was lent.
+pub record TotalAt (t : List ℕ) (l : Lent) : Type 0 where
+  pub number : isResult (callOf t l .result) ≡ true
+  pub unchanged : (callOf t l .result ≡ 0 → ⊥) → callOf t l ≡ refusedBy (callOf t l .result) l
 
 abbrev pub Total : Type 0
-Total = (t d g o : List ℕ) → TotalAt t d g o
+Total = (t : List ℕ) (l : Lent) → TotalAt t l
 
 -- Demand 2: for every list of requests from cleared stores of any lengths, each result and answer is the definition's over the requests accepted
 -- before, and the stores are what the definition's model says.
 abbrev pub Right : Type 0
-Right =
-    (n k : ℕ) (cs : List Call) → areWords cs ≡ true → calls (cleared n k) cs ≡ callsBy (replicate n 0) (replicate k 0) empty cs
+Right = (n k : ℕ) (cs : List Call) → areWords cs ≡ true → calls (cleared n k) cs ≡ callsBy (cleared n k) empty cs
 
 -- Demand 3: for every t and every two lists of requests of any words and length, from cleared stores of equal lengths, with answer slices long
 -- enough, which are the same but for requests that t does not keep, and of which neither lacks slots or finalises at t or above, the kept

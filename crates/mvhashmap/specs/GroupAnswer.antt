@@ -1,5 +1,6 @@
 -- What a group write's answer stands for.
 use mathlib.Core.List.{[]}
+use Rattle.types.specs.Response.{wroteOutsideKind}
 use Rattle.model.specs.Data.{Ruling, refuse, accept, doneAnswer}
 use Rattle.versioned_group_data.specs.declared.update.Written.{Written}
 use Rattle.versioned_group_data.specs.declared.update.Written.the-variants.{Refused, Done, Outside}
@@ -9,4 +10,4 @@ use Rattle.mvhashmap.specs.Answer.{respond}
 unfoldable pub writtenRuling : Written → Ruling Unit
 writtenRuling (Refused n) = refuse n
 writtenRuling Done = accept doneAnswer tt
-writtenRuling Outside = respond 10 []
+writtenRuling Outside = respond wroteOutsideKind []

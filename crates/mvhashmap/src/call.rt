@@ -1,25 +1,23 @@
 // The call: the refusals 1 to 5, lowest first, and the store that does the work.
-use crate::answer::ANSWER_WORDS;
 use crate::data::data_call;
 use crate::group::group_call;
 use group_slots::scan as group_scan;
 use request::Checked;
 use request::asked::Fields;
+use types::refusal;
+use types::response::ANSWER_WIDTH;
 use versioned_data::scan as data_scan;
 ghost use mathlib.Core.Path.{_≡_};
 ghost use mathlib.Core.Bool.{true};
-ghost use Rattle.versioned_data.specs.Layout.{dataValid};
-ghost use Rattle.group_slots.specs.Layout.{groupValid};
-ghost use Rattle.mvhashmap.specs.Call.{Calls};
+ghost use Rattle.mvhashmap.specs.Call.{stores, lent, sound, Calls};
 ghost use Rattle.mvhashmap.specs.Served.{Asked};
 
-// A request that passed the checks, over two valid stores.
+// A request that passed the checks, over sound stores.
 fn accepted(f: Fields, t: &[u32], data: &mut [u32], group: &mut [u32], out: &mut [u32]) -> u32
-    requires data { ⌜ dataValid (now «data») ≡ true ⌝ }
-    requires group { ⌜ groupValid (now group) ≡ true ⌝ }
+    requires sound { ⌜ sound (stores (now «data») (now group)) ≡ true ⌝ }
     requires asked { ⌜ Asked (now t) f (now out) ⌝ }
     ensures called { λ r.
-        ⌜ Calls (now (t .entry)) (now («data» .entry)) (now (group .entry)) (now (out .entry)) r (now («data» .exit)) (now (group .exit)) (now (out .exit)) ⌝ }
+        ⌜ Calls (now (t .entry)) (lent (now («data» .entry)) (now (group .entry)) (now (out .entry))) r (lent (now («data» .exit)) (now (group .exit)) (now (out .exit))) ⌝ }
 {
     if f.kind < 1 {
         return group_call(f, t, group, out);
@@ -30,15 +28,14 @@ fn accepted(f: Fields, t: &[u32], data: &mut [u32], group: &mut [u32], out: &mut
     group_call(f, t, group, out)
 }
 
-// A call by a caller who knows that the stores are valid.
+// A call by a caller who knows that the stores are sound.
 pub fn inner_call(t: &[u32], data: &mut [u32], group: &mut [u32], out: &mut [u32]) -> u32
-    requires data { ⌜ dataValid (now «data») ≡ true ⌝ }
-    requires group { ⌜ groupValid (now group) ≡ true ⌝ }
+    requires sound { ⌜ sound (stores (now «data») (now group)) ≡ true ⌝ }
     ensures called { λ r.
-        ⌜ Calls (now (t .entry)) (now («data» .entry)) (now (group .entry)) (now (out .entry)) r (now («data» .exit)) (now (group .exit)) (now (out .exit)) ⌝ }
+        ⌜ Calls (now (t .entry)) (lent (now («data» .entry)) (now (group .entry)) (now (out .entry))) r (lent (now («data» .exit)) (now (group .exit)) (now (out .exit))) ⌝ }
 {
-    if out.len() < ANSWER_WORDS {
-        return 1;
+    if out.len() < ANSWER_WIDTH {
+        return refusal::ANSWER_TOO_SHORT;
     }
     match request::check(t) {
         Checked::Refused(n) => {
@@ -53,10 +50,10 @@ pub fn inner_call(t: &[u32], data: &mut [u32], group: &mut [u32], out: &mut [u32
 // A call over any words.
 pub fn call(t: &[u32], data: &mut [u32], group: &mut [u32], out: &mut [u32]) -> u32
     ensures called { λ r.
-        ⌜ Calls (now (t .entry)) (now («data» .entry)) (now (group .entry)) (now (out .entry)) r (now («data» .exit)) (now (group .exit)) (now (out .exit)) ⌝ }
+        ⌜ Calls (now (t .entry)) (lent (now («data» .entry)) (now (group .entry)) (now (out .entry))) r (lent (now («data» .exit)) (now (group .exit)) (now (out .exit))) ⌝ }
 {
-    if out.len() < ANSWER_WORDS {
-        return 1;
+    if out.len() < ANSWER_WIDTH {
+        return refusal::ANSWER_TOO_SHORT;
     }
     match request::check(t) {
         Checked::Refused(n) => {
@@ -64,10 +61,10 @@ pub fn call(t: &[u32], data: &mut [u32], group: &mut [u32], out: &mut [u32]) -> 
         }
         Checked::Accepted(f) => {
             if !data_scan::is_valid(data) {
-                return 5;
+                return refusal::DAMAGED_STORE;
             }
             if !group_scan::is_valid(group) {
-                return 5;
+                return refusal::DAMAGED_STORE;
             }
             return accepted(f, t, data, group, out);
         }

@@ -18,7 +18,7 @@ fn set_base_value(f: Fields, t: &[u32], s: &mut [u32], out: &mut [u32]) -> u32
     requires kind { ⌜ f .kind ≡ 1 ⌝ }
     ensures served { λ r. ⌜ ServesData (now (t .entry)) (now (s .entry)) (now (out .entry)) r (now (s .exit)) (now (out .exit)) ⌝ }
 {
-    let n = edit::set_base_value(s, f.key, t, 2);
+    let n = edit::set_base_value(s, f.key, t, f.value);
     done(out, n)
 }
 
@@ -28,7 +28,7 @@ fn write(f: Fields, t: &[u32], s: &mut [u32], out: &mut [u32]) -> u32
     requires kind { ⌜ f .kind ≡ 2 ⌝ }
     ensures served { λ r. ⌜ ServesData (now (t .entry)) (now (s .entry)) (now (out .entry)) r (now (s .exit)) (now (out .exit)) ⌝ }
 {
-    let n = edit::write(s, f.key, f.index, f.incarnation, t, 4);
+    let n = edit::write(s, f.key, f.index, f.incarnation, t, f.value);
     done(out, n)
 }
 
@@ -38,7 +38,7 @@ fn add_delta(f: Fields, t: &[u32], s: &mut [u32], out: &mut [u32]) -> u32
     requires kind { ⌜ f .kind ≡ 3 ⌝ }
     ensures served { λ r. ⌜ ServesData (now (t .entry)) (now (s .entry)) (now (out .entry)) r (now (s .exit)) (now (out .exit)) ⌝ }
 {
-    let n = edit::add_delta(s, f.key, f.index, t, 3);
+    let n = edit::add_delta(s, f.key, f.index, t, f.value);
     done(out, n)
 }
 

@@ -2,9 +2,7 @@
 use mvhashmap::call;
 ghost use mathlib.Core.Path.{_≡_};
 ghost use mathlib.Core.Bool.{true};
-ghost use Rattle.versioned_data.specs.Layout.{dataValid};
-ghost use Rattle.group_slots.specs.Layout.{groupValid};
-ghost use Rattle.mvhashmap.specs.Call.{Calls};
+ghost use Rattle.mvhashmap.specs.Call.{stores, lent, sound, Calls};
 
 // A call over any words.
 #[no_mangle]
@@ -15,12 +13,12 @@ pub extern "C" fn mvhashmap_call(
     out: &mut [u32],
 ) -> u32
     ensures called { λ r.
-        ⌜ Calls (now (t .entry)) (now («data» .entry)) (now (group .entry)) (now (out .entry)) r (now («data» .exit)) (now (group .exit)) (now (out .exit)) ⌝ }
+        ⌜ Calls (now (t .entry)) (lent (now («data» .entry)) (now (group .entry)) (now (out .entry))) r (lent (now («data» .exit)) (now (group .exit)) (now (out .exit))) ⌝ }
 {
     call::call(t, data, group, out)
 }
 
-// A call by a caller who knows that the stores are valid: cleared words, or what a call left of such.
+// A call by a caller who knows that the stores are sound: cleared words, or what a call left of such.
 #[no_mangle]
 pub extern "C" fn mvhashmap_inner_call(
     t: &[u32],
@@ -28,10 +26,9 @@ pub extern "C" fn mvhashmap_inner_call(
     group: &mut [u32],
     out: &mut [u32],
 ) -> u32
-    requires data { ⌜ dataValid (now «data») ≡ true ⌝ }
-    requires group { ⌜ groupValid (now group) ≡ true ⌝ }
+    requires sound { ⌜ sound (stores (now «data») (now group)) ≡ true ⌝ }
     ensures called { λ r.
-        ⌜ Calls (now (t .entry)) (now («data» .entry)) (now (group .entry)) (now (out .entry)) r (now («data» .exit)) (now (group .exit)) (now (out .exit)) ⌝ }
+        ⌜ Calls (now (t .entry)) (lent (now («data» .entry)) (now (group .entry)) (now (out .entry))) r (lent (now («data» .exit)) (now (group .exit)) (now (out .exit))) ⌝ }
 {
     call::inner_call(t, data, group, out)
 }

@@ -1,6 +1,6 @@
 -- `mvhashmap::answer::done` meets its contract.
 -- Assumes nothing.
-use Rattle.mvhashmap.proofs.Puts.{done-put, done-refused}
+use Rattle.mvhashmap.proofs.AnswerPuts.{done-put, done-refused}
 use borrow.Author.Needs.{needs}
 use Rattle.mvhashmap.proofs.answer.done.Statement.{statement}
 use Rattle.mvhashmap.proofs.answer.done.Tie as tie

@@ -1,6 +1,6 @@
 -- `mvhashmap::answer::put_bare` meets its contract.
 -- Assumes nothing.
-use Rattle.mvhashmap.proofs.Puts.{put-bare}
+use Rattle.mvhashmap.proofs.AnswerPuts.{put-bare}
 use borrow.Author.Needs.{needs}
 use Rattle.mvhashmap.proofs.answer.put_bare.Statement.{statement}
 use Rattle.mvhashmap.proofs.answer.put_bare.Tie as tie

@@ -1,6 +1,6 @@
 -- `mvhashmap::answer::put_dependency` meets its contract.
 -- Assumes nothing.
-use Rattle.mvhashmap.proofs.Puts.{put-response}
+use Rattle.mvhashmap.proofs.AnswerPuts.{put-response}
 use mathlib.Core.Path.{refl}
 use native.Mathlib.Omega.{arith}
 use borrow.Author.Needs.{needs}

@@ -1,6 +1,6 @@
 -- `mvhashmap::answer::put_group_output` meets its contract.
 -- Assumes nothing.
-use Rattle.mvhashmap.proofs.Puts.{put-accepted}
+use Rattle.mvhashmap.proofs.AnswerPuts.{put-accepted}
 use Rattle.mvhashmap.specs.Answer.{respond, groupOutputRuling}
 use mathlib.Core.Path.{refl}
 use borrow.Author.Needs.{needs}

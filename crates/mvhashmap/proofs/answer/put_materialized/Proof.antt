@@ -1,6 +1,6 @@
 -- `mvhashmap::answer::put_materialized` meets its contract.
 -- Assumes nothing.
-use Rattle.mvhashmap.proofs.Puts.{put-accepted, put-refused}
+use Rattle.mvhashmap.proofs.AnswerPuts.{put-accepted, put-refused}
 use Rattle.mvhashmap.specs.Answer.{respond, materializedRuling}
 use mathlib.Core.Path.{refl}
 use borrow.Author.Needs.{needs}

@@ -1,6 +1,6 @@
 -- `mvhashmap::answer::put_size` meets its contract.
 -- Assumes nothing.
-use Rattle.mvhashmap.proofs.Puts.{put-response}
+use Rattle.mvhashmap.proofs.AnswerPuts.{put-response}
 use lib.ListN.{length-set}
 use mathlib.Core.Path.{refl}
 use native.Mathlib.Omega.{arith}

@@ -1,6 +1,6 @@
 -- `mvhashmap::answer::put_versioned` meets its contract.
 -- Assumes nothing.
-use Rattle.mvhashmap.proofs.Puts.{versioned-at-base, versioned-at-index}
+use Rattle.mvhashmap.proofs.AnswerPuts.{versioned-at-base, versioned-at-index}
 use lib.ListN.{length-set}
 use mathlib.Core.Path.{_∙_}
 use native.Mathlib.Omega.{arith}
@@ -39,13 +39,25 @@ same-length : tie.Need-same-length
 same-length c = search needs
 
 returns : tie.Need-returns
-returns c = versioned-at-base _ _ _ _ _ _ (c .before .before .before .before .before .before .before .before .before .before .before .before .pre) _ (c .before .before .before .before .before .before .before .before .before .before .idx .ensures) (c .before .before .before .before .before .before .before .before .enum-told .given .1) (c .before .before .before .before .before .before .put-head .ensures) (c .before .before .write .ensures)
+returns c =
+    let at-start = c .before .before .before .before .before .before .before .before .before .before .before .before in
+    let at-idx = c .before .before .before .before .before .before .before .before .before .before in
+    let at-enum-told = c .before .before .before .before .before .before .before .before in
+    let at-put-head = c .before .before .before .before .before .before in
+    versioned-at-base _ _ _ _ _ _ (at-start .pre) _ (at-idx .idx .ensures) (at-enum-told .enum-told .given .1) (at-put-head .put-head .ensures) (c .before .before .write .ensures)
 
 same-length-2 : tie.Need-same-length-2
-same-length-2 c = c .before .before .write2 .kept .1 .0 ∙ simp length-set (c .before .before .before .before .before .before .put-head2 .kept .0)
+same-length-2 c =
+    let at-put-head2 = c .before .before .before .before .before .before in
+    c .before .before .write2 .kept .1 .0 ∙ simp length-set (at-put-head2 .put-head2 .kept .0)
 
 returns-2 : tie.Need-returns-2
-returns-2 c = versioned-at-index _ _ _ _ _ _ (c .before .before .before .before .before .before .before .before .before .before .before .before .before .pre) _ (c .before .before .before .before .before .before .before .before .before .before .before .idx .ensures) _ (c .before .before .before .before .before .before .before .before .before .index .given .1) (c .before .before .before .before .before .before .put-head2 .ensures) (c .before .before .write2 .ensures)
+returns-2 c =
+    let at-start = c .before .before .before .before .before .before .before .before .before .before .before .before .before in
+    let at-idx = c .before .before .before .before .before .before .before .before .before .before .before in
+    let at-index-2 = c .before .before .before .before .before .before .before .before .before in
+    let at-put-head2 = c .before .before .before .before .before .before in
+    versioned-at-index _ _ _ _ _ _ (at-start .pre) _ (at-idx .idx .ensures) _ (at-index-2 .index .given .1) (at-put-head2 .put-head2 .ensures) (c .before .before .write2 .ensures)
 
 pub put-versioned-spec : {M : Type 1} → statement M
 put-versioned-spec =

@@ -1,12 +1,12 @@
 -- `mvhashmap::call::inner_call` meets its contract.
 -- Assumes nothing.
-use Rattle.mvhashmap.proofs.Calls.{calls-short, calls-refused, asked-accepted}
+use Rattle.mvhashmap.proofs.CallParts.{calls-short, calls-refused, asked-accepted}
 use borrow.Author.Needs.{needs}
 use Rattle.mvhashmap.proofs.call.inner_call.Statement.{statement}
 use Rattle.mvhashmap.proofs.call.inner_call.Tie as tie
 
 returns : tie.Need-returns
-returns c = calls-short _ _ _ _ (c .if1 .taken)
+returns c = calls-short _ _ (c .if1 .taken)
 
 check-requires : tie.Need-check-requires
 check-requires c κs = search needs
@@ -15,19 +15,21 @@ enum-known-n : tie.Need-enum-known-n
 enum-known-n c = search needs
 
 returns-2 : tie.Need-returns-2
-returns-2 c = calls-refused _ _ _ _ (c .before .before .before .before .if1 .left) _ (c .before .before .before .check .ensures) _ (c .before .n .given .1)
+returns-2 c =
+    let at-length = c .before .before .before .before in
+    let at-check = c .before .before .before in
+    calls-refused _ _ (at-length .if1 .left) _ (at-check .check .ensures) _ (c .before .n .given .1)
 
 enum-known-f : tie.Need-enum-known-f
 enum-known-f c = search needs
 
 accepted-requires : tie.Need-accepted-requires
-accepted-requires c κs = (
-  c .before .before .before .before .before .before .before .before .before .before .before .before .pre .0,
-  (
-    c .before .before .before .before .before .before .before .before .before .before .before .before .pre .1,
-    asked-accepted _ _ (c .before .before .before .before .before .before .before .if1 .left) _ (c .before .before .before .before .before .before .check .ensures) _ (c .before .before .before .before .f .given .1),
-  ),
-)
+accepted-requires c κs =
+    let at-start = c .before .before .before .before .before .before .before .before .before .before .before .before in
+    let at-length = c .before .before .before .before .before .before .before in
+    let at-check = c .before .before .before .before .before .before in
+    let at-fields = c .before .before .before .before in
+    (at-start .pre, asked-accepted _ _ (at-length .if1 .left) _ (at-check .check .ensures) _ (at-fields .f .given .1))
 
 same-length : tie.Need-same-length
 same-length c = search needs

@@ -1,6 +1,6 @@
 -- `mvhashmap::data::data_call` meets its contract.
 -- Assumes nothing.
-use Rattle.mvhashmap.proofs.Requested.{last-data}
+use Rattle.mvhashmap.proofs.AskedData.{last-data}
 use borrow.Author.Needs.{needs}
 use Rattle.mvhashmap.proofs.data.data_call.Statement.{statement}
 use Rattle.mvhashmap.proofs.data.data_call.Tie as tie
@@ -66,7 +66,15 @@ returns-5 : tie.Need-returns-5
 returns-5 c = search needs
 
 fetch-data-requires : tie.Need-fetch-data-requires
-fetch-data-requires c κs = search needs
+fetch-data-requires c κs =
+    let asks-fetch = c .before .before in
+    let not-remove = asks-fetch .before .before in
+    let not-estimate = not-remove .before .before in
+    let not-delta = not-estimate .before .before in
+    let not-write = not-delta .before .before in
+    let not-base = not-write .before .before in
+    let at-start = not-base .before .before .before .before .before in
+    (at-start .pre .0, (at-start .pre .1 .0, asks-fetch .if6 .taken))
 
 same-length-11 : tie.Need-same-length-11
 same-length-11 c = search needs
@@ -78,7 +86,21 @@ returns-6 : tie.Need-returns-6
 returns-6 c = search needs
 
 materialize-delta-requires : tie.Need-materialize-delta-requires
-materialize-delta-requires c κs = (c .before .before .before .before .before .before .before .before .before .before .before .before .before .before .before .before .before .pre .0, (c .before .before .before .before .before .before .before .before .before .before .before .before .before .before .before .before .before .pre .1 .0, last-data _ (c .before .before .before .before .before .before .before .before .before .before .before .before .before .before .before .before .before .pre .1 .1 .0) (c .before .before .before .before .before .before .before .before .before .before .before .before .before .before .before .before .before .pre .1 .1 .1) (c .before .before .before .before .before .before .before .before .before .before .before .before .if1 .left) (c .before .before .before .before .before .before .before .before .before .before .if2 .left) (c .before .before .before .before .before .before .before .before .if3 .left) (c .before .before .before .before .before .before .if4 .left) (c .before .before .before .before .if5 .left) (c .before .before .if6 .left)))
+materialize-delta-requires c κs =
+    let not-fetch = c .before .before in
+    let not-remove = not-fetch .before .before in
+    let not-estimate = not-remove .before .before in
+    let not-delta = not-estimate .before .before in
+    let not-write = not-delta .before .before in
+    let not-base = not-write .before .before in
+    let at-start = not-base .before .before .before .before .before in (
+      at-start .pre .0,
+      (
+        at-start .pre .1 .0,
+        last-data _ (at-start .pre .1 .1 .0) (at-start .pre .1 .1 .1) (not-base .if1 .left) (not-write .if2 .left) (not-delta .if3 .left)
+            (not-estimate .if4 .left) (not-remove .if5 .left) (not-fetch .if6 .left),
+      ),
+    )
 
 same-length-13 : tie.Need-same-length-13
 same-length-13 c = search needs

@@ -1,8 +1,8 @@
 -- `mvhashmap::data::mark_estimate` meets its contract.
 -- Assumes nothing.
-use Rattle.mvhashmap.proofs.Serves.{serves-edit}
-use Rattle.mvhashmap.proofs.Dones.{markEstimate-done}
-use Rattle.mvhashmap.proofs.Requested.{index-served, asks-estimate}
+use Rattle.mvhashmap.proofs.ServedData.{serves-edit}
+use Rattle.mvhashmap.proofs.AnswerDones.{markEstimate-done}
+use Rattle.mvhashmap.proofs.AskedData.{index-served, asks-estimate}
 use borrow.Author.Needs.{needs}
 use Rattle.mvhashmap.proofs.data.mark_estimate.Statement.{statement}
 use Rattle.mvhashmap.proofs.data.mark_estimate.Tie as tie
@@ -11,7 +11,9 @@ mark-estimate-requires : tie.Need-mark-estimate-requires
 mark-estimate-requires c κs = (c .before .before .before .before .pre .0, index-served _ _ _ (c .before .before .before .before .pre .1 .0))
 
 done-requires : tie.Need-done-requires
-done-requires c κs = c .before .before .before .before .before .before .before .before .pre .1 .0 .room
+done-requires c κs =
+    let at-start = c .before .before .before .before .before .before .before .before in
+    at-start .pre .1 .0 .room
 
 same-length : tie.Need-same-length
 same-length c = search needs
@@ -20,7 +22,10 @@ same-length-2 : tie.Need-same-length-2
 same-length-2 c = search needs
 
 returns : tie.Need-returns
-returns c = serves-edit _ _ _ _ _ _ _ 0 _ (asks-estimate _ _ _ (c .before .before .before .before .before .before .before .before .before .before .before .pre .1 .0) (c .before .before .before .before .before .before .before .before .before .before .before .pre .1 .1)) (markEstimate-done) _ _ (c .before .before .before .before .before .before .mark-estimate .ensures) (c .before .before .done .ensures)
+returns c =
+    let at-start = c .before .before .before .before .before .before .before .before .before .before .before in
+    let at-mark-estimate = c .before .before .before .before .before .before in
+    serves-edit _ _ _ _ _ _ _ 0 _ (asks-estimate _ _ _ (at-start .pre .1 .0) (at-start .pre .1 .1)) (markEstimate-done) _ _ (at-mark-estimate .mark-estimate .ensures) (c .before .before .done .ensures)
 
 pub mark-estimate-spec : {M : Type 1} → statement M
 mark-estimate-spec =

@@ -1,8 +1,8 @@
 -- `mvhashmap::data::set_base_value` meets its contract.
 -- Assumes nothing.
-use Rattle.mvhashmap.proofs.Serves.{serves-edit}
-use Rattle.mvhashmap.proofs.Dones.{setBaseValue-done}
-use Rattle.mvhashmap.proofs.Requested.{base-inside, asks-base}
+use Rattle.mvhashmap.proofs.ServedData.{serves-edit}
+use Rattle.mvhashmap.proofs.AnswerDones.{setBaseValue-done}
+use Rattle.mvhashmap.proofs.AskedData.{base-inside, asks-base}
 use borrow.Author.Needs.{needs}
 use Rattle.mvhashmap.proofs.data.set_base_value.Statement.{statement}
 use Rattle.mvhashmap.proofs.data.set_base_value.Tie as tie
@@ -11,7 +11,9 @@ set-base-value-requires : tie.Need-set-base-value-requires
 set-base-value-requires c κs = (c .before .before .before .before .pre .0, base-inside _ _ _ (c .before .before .before .before .pre .1 .0) (c .before .before .before .before .pre .1 .1))
 
 done-requires : tie.Need-done-requires
-done-requires c κs = c .before .before .before .before .before .before .before .before .pre .1 .0 .room
+done-requires c κs =
+    let at-start = c .before .before .before .before .before .before .before .before in
+    at-start .pre .1 .0 .room
 
 same-length : tie.Need-same-length
 same-length c = search needs
@@ -20,7 +22,10 @@ same-length-2 : tie.Need-same-length-2
 same-length-2 c = search needs
 
 returns : tie.Need-returns
-returns c = serves-edit _ _ _ _ _ _ 0 0 _ (asks-base _ _ _ (c .before .before .before .before .before .before .before .before .before .before .before .pre .1 .0) (c .before .before .before .before .before .before .before .before .before .before .before .pre .1 .1)) (setBaseValue-done _) _ _ (c .before .before .before .before .before .before .set-base-value .ensures) (c .before .before .done .ensures)
+returns c =
+    let at-start = c .before .before .before .before .before .before .before .before .before .before .before in
+    let at-set-base-value = c .before .before .before .before .before .before in
+    serves-edit _ _ _ _ _ _ 0 0 _ (asks-base _ _ _ (at-start .pre .1 .0) (at-start .pre .1 .1)) (setBaseValue-done _) _ _ (at-set-base-value .set-base-value .ensures) (c .before .before .done .ensures)
 
 pub set-base-value-spec : {M : Type 1} → statement M
 set-base-value-spec =

@@ -1,7 +1,7 @@
 -- `mvhashmap::group::fetch_tagged_data` meets its contract.
 -- Assumes nothing.
-use Rattle.mvhashmap.proofs.GroupServes.{serves-group-fetch}
-use Rattle.mvhashmap.proofs.Requested.{index-served, tag-served, asks-group-fetch}
+use Rattle.mvhashmap.proofs.ServedGroup.{serves-group-fetch}
+use Rattle.mvhashmap.proofs.AskedData.{index-served, tag-served, asks-group-fetch}
 use borrow.Author.Needs.{needs}
 use Rattle.mvhashmap.proofs.group.fetch_tagged_data.Statement.{statement}
 use Rattle.mvhashmap.proofs.group.fetch_tagged_data.Tie as tie
@@ -19,7 +19,9 @@ same-length-2 : tie.Need-same-length-2
 same-length-2 c = search needs
 
 returns : tie.Need-returns
-returns c = serves-group-fetch _ _ _ _ _ (c .before .before .before .before .before .before .before .before .before .pre .0) _ _ _ (asks-group-fetch _ _ _ (c .before .before .before .before .before .before .before .before .before .pre .1 .0) (c .before .before .before .before .before .before .before .before .before .pre .1 .1)) _ (c .before .before .before .before .fetch-tagged-data .ensures) (c .before .before .put-group-output .ensures)
+returns c =
+    let at-start = c .before .before .before .before .before .before .before .before .before in
+    serves-group-fetch _ _ _ _ _ (at-start .pre .0) _ _ _ (asks-group-fetch _ _ _ (at-start .pre .1 .0) (at-start .pre .1 .1)) _ (c .before .before .before .before .fetch-tagged-data .ensures) (c .before .before .put-group-output .ensures)
 
 pub fetch-tagged-data-spec : {M : Type 1} → statement M
 fetch-tagged-data-spec =

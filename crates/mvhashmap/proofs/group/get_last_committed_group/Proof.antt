@@ -1,7 +1,7 @@
 -- `mvhashmap::group::get_last_committed_group` meets its contract.
 -- Assumes nothing.
-use Rattle.mvhashmap.proofs.GroupServes.{serves-last-committed}
-use Rattle.mvhashmap.proofs.Requested.{asks-last-committed}
+use Rattle.mvhashmap.proofs.ServedGroup.{serves-last-committed}
+use Rattle.mvhashmap.proofs.AskedData.{asks-last-committed}
 use borrow.Author.Needs.{needs}
 use Rattle.mvhashmap.proofs.group.get_last_committed_group.Statement.{statement}
 use Rattle.mvhashmap.proofs.group.get_last_committed_group.Tie as tie
@@ -16,7 +16,9 @@ same-length-2 : tie.Need-same-length-2
 same-length-2 c = search needs
 
 returns : tie.Need-returns
-returns c = serves-last-committed _ _ _ _ (c .before .before .before .before .before .before .before .before .pre .0) _ (asks-last-committed _ _ _ (c .before .before .before .before .before .before .before .before .pre .1 .0) (c .before .before .before .before .before .before .before .before .pre .1 .1)) (c .before .before .get-last-committed-group .ensures)
+returns c =
+    let at-start = c .before .before .before .before .before .before .before .before in
+    serves-last-committed _ _ _ _ (at-start .pre .0) _ (asks-last-committed _ _ _ (at-start .pre .1 .0) (at-start .pre .1 .1)) (c .before .before .get-last-committed-group .ensures)
 
 pub get-last-committed-group-spec : {M : Type 1} → statement M
 get-last-committed-group-spec =

@@ -1,6 +1,6 @@
 -- `mvhashmap::group::group_call` meets its contract.
 -- Assumes nothing.
-use Rattle.mvhashmap.proofs.GroupRequested.{last-group}
+use Rattle.mvhashmap.proofs.AskedGroup.{last-group}
 use borrow.Author.Needs.{needs}
 use Rattle.mvhashmap.proofs.group.group_call.Statement.{statement}
 use Rattle.mvhashmap.proofs.group.group_call.Tie as tie
@@ -66,7 +66,15 @@ returns-5 : tie.Need-returns-5
 returns-5 c = search needs
 
 remove-requires : tie.Need-remove-requires
-remove-requires c κs = search needs
+remove-requires c κs =
+    let asks-remove = c .before .before in
+    let not-estimate = asks-remove .before .before in
+    let not-write = not-estimate .before .before in
+    let not-exchange = not-write .before .before in
+    let not-base = not-exchange .before .before in
+    let not-committed = not-base .before .before in
+    let at-start = not-committed .before .before .before .before .before in
+    (at-start .pre .0, (at-start .pre .1 .0, asks-remove .if6 .taken))
 
 same-length-11 : tie.Need-same-length-11
 same-length-11 c = search needs
@@ -78,7 +86,16 @@ returns-6 : tie.Need-returns-6
 returns-6 c = search needs
 
 fetch-tagged-data-requires : tie.Need-fetch-tagged-data-requires
-fetch-tagged-data-requires c κs = ((c .before .before .before .before .before .before .before .before .before .before .before .before .before .before .before .before .before .before .before .pre .0), ((c .before .before .before .before .before .before .before .before .before .before .before .before .before .before .before .before .before .before .before .pre .1 .0), search needs))
+fetch-tagged-data-requires c κs =
+    let asks-fetch = c .before .before in
+    let not-remove = asks-fetch .before .before in
+    let not-estimate = not-remove .before .before in
+    let not-write = not-estimate .before .before in
+    let not-exchange = not-write .before .before in
+    let not-base = not-exchange .before .before in
+    let not-committed = not-base .before .before in
+    let at-start = not-committed .before .before .before .before .before in
+    (at-start .pre .0, (at-start .pre .1 .0, asks-fetch .if7 .taken))
 
 same-length-13 : tie.Need-same-length-13
 same-length-13 c = search needs
@@ -90,7 +107,17 @@ returns-7 : tie.Need-returns-7
 returns-7 c = search needs
 
 get-group-size-requires : tie.Need-get-group-size-requires
-get-group-size-requires c κs = ((c .before .before .before .before .before .before .before .before .before .before .before .before .before .before .before .before .before .before .before .before .before .pre .0), ((c .before .before .before .before .before .before .before .before .before .before .before .before .before .before .before .before .before .before .before .before .before .pre .1 .0), search needs))
+get-group-size-requires c κs =
+    let asks-size = c .before .before in
+    let not-fetch = asks-size .before .before in
+    let not-remove = not-fetch .before .before in
+    let not-estimate = not-remove .before .before in
+    let not-write = not-estimate .before .before in
+    let not-exchange = not-write .before .before in
+    let not-base = not-exchange .before .before in
+    let not-committed = not-base .before .before in
+    let at-start = not-committed .before .before .before .before .before in
+    (at-start .pre .0, (at-start .pre .1 .0, asks-size .if8 .taken))
 
 same-length-15 : tie.Need-same-length-15
 same-length-15 c = search needs
@@ -102,7 +129,24 @@ returns-8 : tie.Need-returns-8
 returns-8 c = search needs
 
 finalize-group-requires : tie.Need-finalize-group-requires
-finalize-group-requires c κs = ((c .before .before .before .before .before .before .before .before .before .before .before .before .before .before .before .before .before .before .before .before .before .pre .0), ((c .before .before .before .before .before .before .before .before .before .before .before .before .before .before .before .before .before .before .before .before .before .pre .1 .0), last-group _ _ _ (c .before .before .before .before .before .before .before .before .before .before .before .before .before .before .before .before .before .before .before .before .before .pre .1 .0) (λ i. c .before .before .before .before .before .before .before .before .before .before .before .before .before .before .before .before .before .before .before .before .shared-slice-known .given i .fits) (c .before .before .before .before .before .before .before .before .before .before .before .before .before .before .before .before .before .before .before .before .before .pre .1 .1) (c .before .before .before .before .before .before .before .before .before .before .before .before .before .before .before .before .if1 .left) (c .before .before .before .before .before .before .before .before .before .before .before .before .before .before .if2 .left) (c .before .before .before .before .before .before .before .before .before .before .before .before .if3 .left) (c .before .before .before .before .before .before .before .before .before .before .if4 .left) (c .before .before .before .before .before .before .before .before .if5 .left) (c .before .before .before .before .before .before .if6 .left) (c .before .before .before .before .if7 .left) (c .before .before .if8 .left)))
+finalize-group-requires c κs =
+    let not-size = c .before .before in
+    let not-fetch = not-size .before .before in
+    let not-remove = not-fetch .before .before in
+    let not-estimate = not-remove .before .before in
+    let not-write = not-estimate .before .before in
+    let not-exchange = not-write .before .before in
+    let not-base = not-exchange .before .before in
+    let not-committed = not-base .before .before in
+    let at-start = not-committed .before .before .before .before .before in (
+      at-start .pre .0,
+      (
+        at-start .pre .1 .0,
+        last-group _ _ _ (at-start .pre .1 .0) (λ i. not-committed .before .before .before .before .shared-slice-known .given i .fits) (at-start .pre .1 .1)
+            (not-committed .if1 .left) (not-base .if2 .left) (not-exchange .if3 .left) (not-write .if4 .left) (not-estimate .if5 .left)
+            (not-remove .if6 .left) (not-fetch .if7 .left) (not-size .if8 .left),
+      ),
+    )
 
 same-length-17 : tie.Need-same-length-17
 same-length-17 c = search needs

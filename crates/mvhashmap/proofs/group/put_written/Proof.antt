@@ -1,10 +1,10 @@
 -- `mvhashmap::group::put_written` meets its contract.
 -- Assumes nothing.
-use Rattle.mvhashmap.proofs.Puts.{put-refused}
-use Rattle.mvhashmap.proofs.GroupServes.{done-written, outside-written}
-use Rattle.mvhashmap.specs.GroupAnswer.{writtenRuling}
 use mathlib.Core.Path.{refl}
 use borrow.Author.Needs.{needs}
+use Rattle.mvhashmap.specs.GroupAnswer.{writtenRuling}
+use Rattle.mvhashmap.proofs.AnswerPuts.{put-refused}
+use Rattle.mvhashmap.proofs.ServedGroup.{done-written, outside-written}
 use Rattle.mvhashmap.proofs.group.put_written.Statement.{statement}
 use Rattle.mvhashmap.proofs.group.put_written.Tie as tie
 
@@ -30,14 +30,14 @@ returns-2 c = done-written _ _ _ _ (c .before .before .before .before .enum-told
 enum-told-2 : tie.Need-enum-told-2
 enum-told-2 c = search needs
 
-slice-write-out : tie.Need-slice-write-out
-slice-write-out c = search needs
+put-bare-requires : tie.Need-put-bare-requires
+put-bare-requires c κs = search needs
 
 same-length-2 : tie.Need-same-length-2
 same-length-2 c = search needs
 
 returns-3 : tie.Need-returns-3
-returns-3 c = outside-written _ _ _ (c .enum-told2 .given .1) (c .before .before .before .pre) refl
+returns-3 c = outside-written _ _ _ (c .before .before .before .before .enum-told2 .given .1) (c .before .before .put-bare .ensures)
 
 pub put-written-spec : {M : Type 1} → statement M
 put-written-spec =
@@ -50,6 +50,6 @@ put-written-spec =
     same-length
     returns-2
     enum-told-2
-    slice-write-out
+    put-bare-requires
     same-length-2
     returns-3)

@@ -1,9 +1,9 @@
 -- `mvhashmap::group::set_raw_base_values` meets its contract.
 -- Assumes nothing.
-use Rattle.mvhashmap.proofs.GroupServes.{serves-group-commit}
-use Rattle.mvhashmap.proofs.GroupRequested.{group-base-fine}
-use Rattle.mvhashmap.proofs.Dones.{setRawBaseValues-done}
-use Rattle.mvhashmap.proofs.Requested.{group-base-inside, asks-group-base}
+use Rattle.mvhashmap.proofs.ServedGroup.{serves-group-commit}
+use Rattle.mvhashmap.proofs.AskedGroup.{group-base-fine}
+use Rattle.mvhashmap.proofs.AnswerDones.{setRawBaseValues-done}
+use Rattle.mvhashmap.proofs.AskedData.{group-base-inside, asks-group-base}
 use borrow.Author.Needs.{needs}
 use Rattle.mvhashmap.proofs.group.set_raw_base_values.Statement.{statement}
 use Rattle.mvhashmap.proofs.group.set_raw_base_values.Tie as tie
@@ -21,7 +21,10 @@ same-length-2 : tie.Need-same-length-2
 same-length-2 c = search needs
 
 returns : tie.Need-returns
-returns c = serves-group-commit _ _ _ _ _ _ 0 _ (asks-group-base _ _ _ (c .before .before .before .before .before .before .before .before .before .before .before .pre .1 .0) (c .before .before .before .before .before .before .before .before .before .before .before .pre .1 .1)) (setRawBaseValues-done _ _) _ _ (c .before .before .before .before .before .before .set-raw-base-values .ensures) (c .before .before .done .ensures)
+returns c =
+    let at-start = c .before .before .before .before .before .before .before .before .before .before .before in
+    let at-set-raw-base-values = c .before .before .before .before .before .before in
+    serves-group-commit _ _ _ _ _ _ 0 _ (asks-group-base _ _ _ (at-start .pre .1 .0) (at-start .pre .1 .1)) (setRawBaseValues-done _ _) _ _ (at-set-raw-base-values .set-raw-base-values .ensures) (c .before .before .done .ensures)
 
 pub set-raw-base-values-spec : {M : Type 1} → statement M
 set-raw-base-values-spec = tie.close (tie.spec set-raw-base-values-requires done-requires same-length same-length-2 returns)

@@ -1,7 +1,7 @@
 -- `mvhashmap::group::write` meets its contract.
 -- Assumes nothing.
-use Rattle.mvhashmap.proofs.GroupServes.{serves-group-write}
-use Rattle.mvhashmap.proofs.Requested.{index-served, group-write-inside, asks-group-write}
+use Rattle.mvhashmap.proofs.ServedGroup.{serves-group-write}
+use Rattle.mvhashmap.proofs.AskedData.{index-served, group-write-inside, asks-group-write}
 use borrow.Author.Needs.{needs}
 use Rattle.mvhashmap.proofs.group.write.Statement.{statement}
 use Rattle.mvhashmap.proofs.group.write.Tie as tie
@@ -19,7 +19,10 @@ same-length-2 : tie.Need-same-length-2
 same-length-2 c = search needs
 
 returns : tie.Need-returns
-returns c = serves-group-write _ _ _ _ _ _ _ _ _ (asks-group-write _ _ _ (c .before .before .before .before .before .before .before .before .before .before .before .pre .1 .0) (c .before .before .before .before .before .before .before .before .before .before .before .pre .1 .1)) _ _ (c .before .before .before .before .before .before .write .ensures) (c .before .before .put-written .ensures)
+returns c =
+    let at-start = c .before .before .before .before .before .before .before .before .before .before .before in
+    let at-write = c .before .before .before .before .before .before in
+    serves-group-write _ _ _ _ _ _ _ _ _ (asks-group-write _ _ _ (at-start .pre .1 .0) (at-start .pre .1 .1)) _ _ (at-write .write .ensures) (c .before .before .put-written .ensures)
 
 pub write-spec : {M : Type 1} → statement M
 write-spec =

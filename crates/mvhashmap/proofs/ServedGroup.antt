@@ -4,57 +4,58 @@ use mathlib.Core.Path.{_≡_, refl, sym, ap, _∙_}
 use mathlib.Core.Bool.{Bool, true, false, cond}
 use mathlib.Core.List.{List, []}
 use mathlib.Core.Option.{Option}
-use Prim.Native.Nat.{ℕ, _+_, _*_, _^_, _≤_}
-use lib.ListN.{length, set}
-use Rattle.types.specs.Response.{response}
+use Prim.Native.Nat.{ℕ, zero, suc}
+use lib.Dec.{eqb, eqb·suc-zero}
+use Rattle.lists.specs.Lists.{every}
+use Rattle.types.specs.Response.{response, wroteOutsideKind}
 use Rattle.types.specs.declared.output.MVGroupOutput.{MVGroupOutput}
 use Rattle.types.specs.declared.output.MVGroupOutput.the-variants.{Uninitialized}
 use Rattle.request.specs.Request.{requestOf}
 use Rattle.request.specs.Set.{Member}
-use Rattle.model.specs.Rows.{Row, every, find, downFrom, Edit, edited}
+use Rattle.model.specs.Rows.{Row, find, downFrom, Edit, edited}
 use Rattle.model.specs.Data.{Ruling, refuse, accept, doneAnswer}
 use Rattle.model.specs.Group.{Update, Committed, Commits, commits, membersIn, outside, writeGroup, latest, hasBase, fetchTaggedData, allTags, sizeOver, getGroupSize, committedAnswer, getLastCommittedGroup, finalizeGroup}
 use Rattle.model.specs.Model.{readGroup, editGroup, commitGroup, workOf, ruled}
 use Rattle.model.specs.Fine.{fineUpdate}
-use Rattle.model.proofs.Maps.{every-downFrom}
-use Rattle.model.proofs.GroupReads.{latest-fine}
-use Rattle.group_slots.specs.Layout.{Groups, groupsIn, groupValid, fitsIn}
-use Rattle.versioned_group_data.specs.Ruled.{editing, withCommits, committing, resultOf, answerIn, answerAfter, Ruled, Answered}
+use Rattle.model.proofs.RowMaps.{every-downFrom}
+use Rattle.model.proofs.FineGroupReads.{latest-fine}
+use Rattle.group_slots.specs.Layout.{Groups, groupsIn, groupValid, lackIn, fitsIn}
+use Rattle.versioned_group_data.specs.Ruled.{editing, withGroupCommits, committing, resultOf, answerIn, answerAfter, Ruled, Answered}
 use Rattle.versioned_group_data.specs.Output.{latestOutput, sizeOutput}
 use Rattle.versioned_group_data.specs.Written.{writtenOf, Writes}
 use Rattle.versioned_group_data.specs.declared.update.Written.{Written}
 use Rattle.versioned_group_data.specs.declared.update.Written.the-variants.{Done, Outside}
-use Rattle.group_slots.proofs.Holding.{holding-groups, every-valid, few-valid}
-use Rattle.versioned_group_data.proofs.Rulings.{answered-done}
+use Rattle.group_slots.proofs.GroupHolding.{holding-groups, every-valid, few-valid}
+use Rattle.versioned_group_data.proofs.GroupRulings.{answered-done}
 use Rattle.mvhashmap.specs.Answer.{respond, doneRuling, groupOutputRuling, resultBy, outBy, Put}
 use Rattle.mvhashmap.specs.GroupAnswer.{writtenRuling}
 use Rattle.mvhashmap.specs.Served.{ServesGroup}
-use Rattle.mvhashmap.proofs.Puts.{put-accepted, put-bare}
-use Rattle.mvhashmap.proofs.Outputs.{latest-kept, size-kept}
-use Rattle.mvhashmap.proofs.Works.{told, reads-group, edits-group, commits-group}
-use Rattle.mvhashmap.proofs.Dones.{IsDone, ruled-done, done-told, group-number}
+use Rattle.mvhashmap.proofs.AnswerPuts.{put-accepted}
+use Rattle.mvhashmap.proofs.AnswerOutputs.{latest-kept, size-kept}
+use Rattle.mvhashmap.proofs.ServedWorks.{toldOf, told, reads-group, edits-group, commits-group}
+use Rattle.mvhashmap.proofs.AnswerDones.{IsDone, ruled-done, done-told, group-number}
 
-group-out : (g o : List ℕ) (R : Ruling Groups) → outBy (told (fitsIn g) R) o ≡ answerAfter g R o
-unfolding answerAfter told outBy
+group-out : (g o : List ℕ) (R : Ruling Groups) → outBy (told (lackIn g) R) o ≡ answerAfter g R o
+unfolding answerAfter fitsIn told toldOf outBy
 group-out g o (refuse n) = refl
-group-out g o (accept answer x) = go (fitsIn g x)
+group-out g o (accept answer x) = go (lackIn g x)
   where
-    go : (b : Bool) → outBy (cond b (accept answer tt) (refuse 14)) o ≡ cond b (answerIn answer o) o
-    go true = refl
-    go false = refl
+    go : (n : ℕ) → outBy (toldOf n answer) o ≡ cond (eqb n 0) (answerIn answer o) o
+    go zero = refl
+    go (suc n) = rw (eqb·suc-zero n) refl
 
 -- What a write answers is what its rule tells.
 written-told : (g : List ℕ) (key place incarnation : ℕ) (ms : List Member) →
     writtenRuling
     (writtenOf (resultOf g (editing (groupsIn g) key place (writeGroup incarnation ms))) (outside ms (membersIn (find key place (groupsIn g .updates)))))
-    ≡ told (fitsIn g) (editing (groupsIn g) key place (writeGroup incarnation ms))
-unfolding editing writeGroup ruled told resultOf writtenRuling writtenOf respond
-written-told g key place incarnation ms = go (fitsIn g _) (outside ms (membersIn (find key place (groupsIn g .updates))))
+    ≡ told (lackIn g) (editing (groupsIn g) key place (writeGroup incarnation ms))
+unfolding editing writeGroup ruled told resultOf writtenRuling writtenOf respond toldOf
+written-told g key place incarnation ms = go (lackIn g _) (outside ms (membersIn (find key place (groupsIn g .updates))))
   where
-    go : (b out : Bool) → writtenRuling (writtenOf (cond b 0 14) out) ≡ cond b (accept (cond out (response 10 []) doneAnswer) tt) (refuse 14)
-    go true true = refl
-    go true false = refl
-    go false out = refl
+    go : (n : ℕ) (out : Bool) → writtenRuling (writtenOf n out) ≡ toldOf n (cond out (response wroteOutsideKind []) doneAnswer)
+    go zero true = refl
+    go zero false = refl
+    go (suc n) out = rw (eqb·suc-zero n) refl
 
 -- What a write's answer puts.
 module _ (w : Written) (o : List ℕ) where
@@ -62,9 +63,9 @@ module _ (w : Written) (o : List ℕ) where
   unfolding doneRuling writtenRuling
   done-written r out e p = rw e p
 
-  pub outside-written : (out : List ℕ) → w ≡ Outside → 451 ≤ length o → out ≡ set o 0 (10 * 2 ^ 28 + 0) → Put (writtenRuling w) o 0 out
+  pub outside-written : (out : List ℕ) → w ≡ Outside → out ≡ answerIn (response wroteOutsideKind []) o → Put (writtenRuling w) o 0 out
   unfolding writtenRuling respond
-  outside-written out e room h = put-accepted writtenRuling w Outside e o (response 10 []) out refl (put-bare 10 o out room h)
+  outside-written out e h = put-accepted writtenRuling w Outside e o (response wroteOutsideKind []) out refl h
 
 module _ (t g o : List ℕ) (r : ℕ) (out : List ℕ) where
   pub serves-group-edit : (key place : ℕ) (rule : Option Update → Ruling (Edit Update)) → workOf (requestOf t) ≡ editGroup key place rule →
@@ -73,7 +74,7 @@ module _ (t g o : List ℕ) (r : ℕ) (out : List ℕ) where
   unfolding editing
   serves-group-edit key place rule e h n after p q =
       edits-group t o r out g key place rule after e
-      (done-told (fitsIn g) (editing (groupsIn g) key place rule) n o out r done (p .result ∙ group-number g (editing (groupsIn g) key place rule)) q)
+      (done-told (lackIn g) (editing (groupsIn g) key place rule) n o out r done (p .result ∙ group-number g (editing (groupsIn g) key place rule)) q)
       (p .words)
     where
       done : IsDone (editing (groupsIn g) key place rule)
@@ -90,13 +91,13 @@ module _ (t g o : List ℕ) (r : ℕ) (out : List ℕ) where
       R : Ruling Groups
       R = committing (groupsIn g) key place rule
 
-      number : resultOf g R ≡ resultBy (told (fitsIn g) R)
+      number : resultOf g R ≡ resultBy (told (lackIn g) R)
       number = group-number g R
 
-      put : Put (told (fitsIn g) R) o r out
+      put : Put (told (lackIn g) R) o r out
       put =
-          done-told (fitsIn g) R n o out r
-          (ruled-done (withCommits (groupsIn g) key place) (rule (find key place (groupsIn g .updates)) (groupsIn g .committed))
+          done-told (lackIn g) R n o out r
+          (ruled-done (withGroupCommits (groupsIn g) key place) (rule (find key place (groupsIn g .updates)) (groupsIn g .committed))
           (h (find key place (groupsIn g .updates)) (groupsIn g .committed)))
           (p .result ∙ number) q
 
@@ -136,7 +137,7 @@ module _ (t g o : List ℕ) (r : ℕ) (out : List ℕ) where
 
 pub serves-last-committed : (t g o out : List ℕ) → groupValid g ≡ true → (key : ℕ) → workOf (requestOf t) ≡ commitGroup key 0 (getLastCommittedGroup key) →
     out ≡ answerIn (committedAnswer key (groupsIn g .committed)) o → ServesGroup t g o 0 g out
-unfolding committing getLastCommittedGroup ruled withCommits commits edited
+unfolding committing getLastCommittedGroup ruled withGroupCommits commits edited
 serves-last-committed t g o out v key e h =
     commits-group t o 0 out g key 0 (getLastCommittedGroup key) g e
     (answered-done g o (committing (groupsIn g) key 0 (getLastCommittedGroup key)) (committedAnswer key (groupsIn g .committed)) (groupsIn g) refl

@@ -1,21 +1,22 @@
 -- A request that 1 to 4 do not refuse: the work that it asks for and the words that it has, kind by kind.
 -- Assumes nothing.
-use mathlib.Core.Path.{_≡_, refl, sym, ap, _∙_}
+use mathlib.Core.Path.{_≡_, refl, ap, _∙_}
 use mathlib.Core.Bool.{true}
 use mathlib.Core.List.{List}
 use Prim.Native.Nat.{ℕ, suc, _+_, _*_, _≤_, _<_}
 use native.Mathlib.Omega.{arith}
-use lib.ListN.{length, take, drop, length-drop}
+use lib.ListN.{length, take, drop}
 use lib.Seq.{take-all}
 use Rattle.delta.specs.Delta.{deltaAt, deltaOk}
+use Rattle.types.specs.Index.{indexBound, materializeBound}
 use Rattle.types.specs.Value.{valueAt, valueWidth}
-use Rattle.request.specs.Table.{at, row, table, rowOf}
+use Rattle.request.specs.Table.{row, table, rowOf}
 use Rattle.request.specs.Set.{tagsOf}
 use Rattle.request.specs.Request.{requestOf}
 use Rattle.request.specs.declared.asked.Fields.{Fields}
-use Rattle.request.proofs.Checks.{Passed, accepted-passed}
-use Rattle.request.proofs.Passes.{passed-length, passed-index, passed-materialize, passed-delta, passed-tag}
-use Rattle.request.proofs.Asks as Asks
+use Rattle.request.proofs.CheckAnswers.{Passed, accepted-passed}
+use Rattle.request.proofs.CheckPasses.{passed-room, passed-values, passed-alone, passed-index, passed-materialize, passed-delta, passed-tag}
+use Rattle.request.proofs.RequestAsks as Asks
 use Rattle.model.specs.Data as Rule
 use Rattle.model.specs.Group as Groups
 use Rattle.model.specs.Model.{readData, editData, readGroup, editGroup, commitGroup, workOf}
@@ -26,10 +27,10 @@ module _ (t : List ℕ) (f : Fields) (o : List ℕ) (a : Asked t f o) where
   passed : Passed t f
   passed = accepted-passed t f (a .checked)
 
-  pub index-served : f .index < 4294967295
+  pub index-served : f .index < indexBound
   index-served = omega (arith, passed-index t f passed)
 
-  pub index-materialized : f .kind ≡ 7 → f .index < 4294967294
+  pub index-materialized : f .kind ≡ 7 → f .index < materializeBound
   index-materialized k = omega (arith, passed-materialize t f passed k)
 
   pub tag-served : f .tag ≤ 63
@@ -37,38 +38,36 @@ module _ (t : List ℕ) (f : Fields) (o : List ℕ) (a : Asked t f o) where
 
   -- ---- the words of each kind
 
-  pub base-inside : f .kind ≡ 1 → 2 + valueWidth ≤ length t
-  unfolding rowOf table row at
-  base-inside k = let n = passed-length t f passed 1 k in omega arith
+  pub base-inside : f .kind ≡ 1 → f .value + valueWidth ≤ length t
+  unfolding rowOf table row
+  base-inside k = passed-room t f passed 1 k valueWidth (omega arith)
 
-  pub write-inside : f .kind ≡ 2 → 4 + valueWidth ≤ length t
-  unfolding rowOf table row at
-  write-inside k = let n = passed-length t f passed 2 k in omega arith
+  pub write-inside : f .kind ≡ 2 → f .value + valueWidth ≤ length t
+  unfolding rowOf table row
+  write-inside k = passed-room t f passed 2 k valueWidth (omega arith)
 
-  delta-length : f .kind ≡ 3 → length t ≡ 20
-  unfolding rowOf table row at
-  delta-length k = let n = passed-length t f passed 3 k in omega arith
+  pub delta-inside : f .kind ≡ 3 → f .value + 17 ≤ length t
+  unfolding rowOf table row
+  delta-inside k = passed-room t f passed 3 k 17 (omega arith)
 
-  pub delta-inside : f .kind ≡ 3 → 3 + 17 ≤ length t
-  delta-inside k = omega (arith, delta-length k)
+  pub delta-part : f .kind ≡ 3 → take 17 (drop (f .value) t) ≡ drop (f .value) t
+  unfolding rowOf table row
+  delta-part k = let n = passed-alone t f passed 3 k refl in take-all 17 (drop (f .value) t) (omega arith)
 
-  pub delta-part : f .kind ≡ 3 → take 17 (drop 3 t) ≡ drop 3 t
-  delta-part k = take-all 17 (drop 3 t) (omega (arith, delta-length k, length-drop 3 t))
-
-  pub delta-ok : f .kind ≡ 3 → deltaOk (take 17 (drop 3 t)) ≡ true
+  pub delta-ok : f .kind ≡ 3 → deltaOk (take 17 (drop (f .value) t)) ≡ true
   delta-ok k = ap deltaOk (delta-part k) ∙ passed-delta t f passed k
 
-  pub group-base-inside : f .kind ≡ 8 → 4 + valueWidth * length (tagsOf (f .set .low) (f .set .high)) ≤ length t
-  unfolding rowOf table row at
-  group-base-inside k = let n = passed-length t f passed 8 k in omega arith
+  pub group-base-inside : f .kind ≡ 8 → f .value + valueWidth * length (tagsOf (f .set .low) (f .set .high)) ≤ length t
+  unfolding rowOf table row
+  group-base-inside k = passed-values t f passed 8 k refl refl
 
-  pub exchange-inside : f .kind ≡ 9 → 3 + valueWidth ≤ length t
-  unfolding rowOf table row at
-  exchange-inside k = let n = passed-length t f passed 9 k in omega arith
+  pub exchange-inside : f .kind ≡ 9 → f .value + valueWidth ≤ length t
+  unfolding rowOf table row
+  exchange-inside k = passed-room t f passed 9 k valueWidth (omega arith)
 
-  pub group-write-inside : f .kind ≡ 10 → 6 + valueWidth * length (tagsOf (f .set .low) (f .set .high)) ≤ length t
-  unfolding rowOf table row at
-  group-write-inside k = let n = passed-length t f passed 10 k in omega arith
+  pub group-write-inside : f .kind ≡ 10 → f .value + valueWidth * length (tagsOf (f .set .low) (f .set .high)) ≤ length t
+  unfolding rowOf table row
+  group-write-inside k = passed-values t f passed 10 k refl refl
 
   -- ---- the work of each kind
 
@@ -76,15 +75,15 @@ module _ (t : List ℕ) (f : Fields) (o : List ℕ) (a : Asked t f o) where
   unfolding workOf
   asks-last-committed k = ap workOf (Asks.asks-last-committed t f (passed .fields) k)
 
-  pub asks-base : f .kind ≡ 1 → workOf (requestOf t) ≡ editData (f .key) 0 0 (λ own seen. Rule.setBaseValue (valueAt 2 t) own)
+  pub asks-base : f .kind ≡ 1 → workOf (requestOf t) ≡ editData (f .key) 0 0 (λ own seen. Rule.setBaseValue (valueAt (f .value) t) own)
   unfolding workOf
   asks-base k = ap workOf (Asks.asks-base t f (passed .fields) k)
 
-  pub asks-write : f .kind ≡ 2 → workOf (requestOf t) ≡ editData (f .key) (suc (f .index)) 0 (λ own seen. Rule.writeValue (f .incarnation) (valueAt 4 t) own)
+  pub asks-write : f .kind ≡ 2 → workOf (requestOf t) ≡ editData (f .key) (suc (f .index)) 0 (λ own seen. Rule.writeValue (f .incarnation) (valueAt (f .value) t) own)
   unfolding workOf
   asks-write k = ap workOf (Asks.asks-write t f (passed .fields) k)
 
-  pub asks-add-delta : f .kind ≡ 3 → workOf (requestOf t) ≡ editData (f .key) (suc (f .index)) 0 (λ own seen. Rule.addDelta (deltaAt (take 17 (drop 3 t))) own)
+  pub asks-add-delta : f .kind ≡ 3 → workOf (requestOf t) ≡ editData (f .key) (suc (f .index)) 0 (λ own seen. Rule.addDelta (deltaAt (take 17 (drop (f .value) t))) own)
   unfolding workOf
   asks-add-delta k = rw (delta-part k) (ap workOf (Asks.asks-add-delta t f (passed .fields) k))
 
@@ -104,15 +103,15 @@ module _ (t : List ℕ) (f : Fields) (o : List ℕ) (a : Asked t f o) where
   unfolding workOf
   asks-materialize k = ap workOf (Asks.asks-materialize t f (passed .fields) k)
 
-  pub asks-group-base : f .kind ≡ 8 → workOf (requestOf t) ≡ commitGroup (f .key) 0 (Groups.setRawBaseValues (f .key) (membersAt (f .set) 4 t))
+  pub asks-group-base : f .kind ≡ 8 → workOf (requestOf t) ≡ commitGroup (f .key) 0 (Groups.setRawBaseValues (f .key) (membersAt (f .set) (f .value) t))
   unfolding workOf membersAt
   asks-group-base k = ap workOf (Asks.asks-group-base t f (passed .fields) k)
 
-  pub asks-exchange : f .kind ≡ 9 → workOf (requestOf t) ≡ commitGroup (f .key) 0 (Groups.updateTaggedBaseValue (f .key) (f .tag) (valueAt 3 t))
+  pub asks-exchange : f .kind ≡ 9 → workOf (requestOf t) ≡ commitGroup (f .key) 0 (Groups.updateTaggedBaseValue (f .key) (f .tag) (valueAt (f .value) t))
   unfolding workOf
   asks-exchange k = ap workOf (Asks.asks-exchange t f (passed .fields) k)
 
-  pub asks-group-write : f .kind ≡ 10 → workOf (requestOf t) ≡ editGroup (f .key) (suc (f .index)) (Groups.writeGroup (f .incarnation) (membersAt (f .set) 6 t))
+  pub asks-group-write : f .kind ≡ 10 → workOf (requestOf t) ≡ editGroup (f .key) (suc (f .index)) (Groups.writeGroup (f .incarnation) (membersAt (f .set) (f .value) t))
   unfolding workOf membersAt
   asks-group-write k = ap workOf (Asks.asks-group-write t f (passed .fields) k)
 

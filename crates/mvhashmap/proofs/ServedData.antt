@@ -1,31 +1,28 @@
 -- What each operation's promise, and its answer put into the slice, come to: the store's part of the call.
 -- Assumes nothing.
-use mathlib.Core.Path.{_≡_, refl, sym, ap, _∙_}
-use mathlib.Core.Bool.{true, cond}
+use mathlib.Core.Path.{_≡_, refl, ap, _∙_}
+use mathlib.Core.Bool.{true}
 use mathlib.Core.List.{List}
 use mathlib.Core.Option.{Option}
 use Prim.Native.Nat.{ℕ, suc}
 use Rattle.request.specs.Request.{requestOf}
 use Rattle.types.specs.declared.output.MVDataOutput.{MVDataOutput}
-use Rattle.types.specs.declared.output.MVGroupOutput.{MVGroupOutput}
-use Rattle.types.specs.declared.output.MVGroupOutput.the-variants.{Uninitialized}
-use Rattle.model.specs.Rows.{Row, find, downFrom, Edit}
-use Rattle.model.specs.Data.{Entry, Ruling, readOf, fetchData, materialized, materializeDelta}
-use Rattle.model.specs.Group.{Update, Committed, Commits, latest, hasBase, fetchTaggedData, allTags, sizeOver, getGroupSize}
-use Rattle.model.specs.Model.{readData, editData, readGroup, editGroup, commitGroup, workOf}
-use Rattle.model.proofs.Walk.{readOf-fine}
-use Rattle.model.proofs.FineData.{fine-downFrom}
+use Rattle.model.specs.Rows.{find, downFrom, Edit}
+use Rattle.model.specs.Data.{Entry, Ruling, readOf, fetchData, materializeDelta}
+use Rattle.model.specs.Model.{readData, editData, workOf}
+use Rattle.model.proofs.ReadFacts.{readOf-fine}
+use Rattle.model.proofs.FineEntries.{fine-downFrom}
 use Rattle.versioned_data.specs.Layout.{entriesIn, dataValid}
 use Rattle.versioned_data.specs.Output.{outputOf}
 use Rattle.versioned_data.specs.Edited.{Edited}
 use Rattle.versioned_data.specs.Materialize.{Materializes}
 use Rattle.versioned_data.specs.declared.materialize.Materialized.{Materialized}
-use Rattle.versioned_data.proofs.Holding as Entries
-use Rattle.mvhashmap.specs.Answer.{doneRuling, outputRuling, materializedRuling, groupOutputRuling, Put}
+use Rattle.versioned_data.proofs.EntriesHeld as Entries
+use Rattle.mvhashmap.specs.Answer.{doneRuling, outputRuling, materializedRuling, Put}
 use Rattle.mvhashmap.specs.Served.{ServesData}
-use Rattle.mvhashmap.proofs.Outputs.{output-kept}
-use Rattle.mvhashmap.proofs.Works.{edits-data, reads-data}
-use Rattle.mvhashmap.proofs.Dones.{IsDone, done-told, data-number, materialized-told}
+use Rattle.mvhashmap.proofs.AnswerOutputs.{output-kept}
+use Rattle.mvhashmap.proofs.ServedWorks.{edits-data, reads-data}
+use Rattle.mvhashmap.proofs.AnswerDones.{IsDone, done-told, data-number, materialized-told}
 
 module _ (t d o : List ℕ) (r : ℕ) (out : List ℕ) where
   pub serves-edit : (key place reach : ℕ) (rule : Option Entry → Ruling (Edit Entry)) → workOf (requestOf t) ≡ editData key place reach (λ own seen. rule own) →

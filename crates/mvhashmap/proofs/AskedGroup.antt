@@ -3,28 +3,29 @@
 use mathlib.Core.Path.{_≡_, ap, sym, _∙_}
 use mathlib.Core.Bool.{true}
 use mathlib.Core.List.{List}
-use Prim.Native.Nat.{ℕ, _/_, _^_, _≤_, _<_}
+use Prim.Native.Nat.{ℕ, _^_, _≤_, _<_}
 use native.Mathlib.Decide.{decLe}
 use native.Mathlib.Omega.{arith}
 use lib.ListN.{getD, drop}
+use Rattle.lists.proofs.Bools.{and-right}
 use Rattle.number.specs.Words.{AreWords}
+use Rattle.types.specs.Response.{kindIn}
 use Rattle.request.specs.Set.{tagsOf, membersOf}
 use Rattle.request.specs.Fields.{kindAt}
 use Rattle.request.specs.declared.asked.Fields.{Fields}
-use Rattle.request.proofs.Checks.{Passed, accepted-passed}
-use Rattle.request.proofs.Passes.{kind-is}
-use Rattle.request.proofs.Asks as Asks
+use Rattle.request.proofs.CheckAnswers.{Passed, accepted-passed}
+use Rattle.request.proofs.CheckPasses.{kind-is}
+use Rattle.request.proofs.RequestAsks as Asks
 use Rattle.model.specs.Fine.{isWord, fineMembers, fineRequest}
-use Rattle.model.proofs.Lists.{and-right}
-use Rattle.model.proofs.Walk.{words-every}
-use Rattle.model.proofs.FineRequest.{requestOf-fine}
+use Rattle.model.proofs.FineParts.{words-every}
+use Rattle.model.proofs.FineRequests.{requestOf-fine}
 use Rattle.versioned_group_data.specs.Members.{membersAt}
 use Rattle.mvhashmap.specs.Served.{Asked}
 
-pub group-base-fine : (t : List ℕ) (f : Fields) (o : List ℕ) → Asked t f o → AreWords t → f .kind ≡ 8 → fineMembers 0 (membersAt (f .set) 4 t) ≡ true
+pub group-base-fine : (t : List ℕ) (f : Fields) (o : List ℕ) → Asked t f o → AreWords t → f .kind ≡ 8 → fineMembers 0 (membersAt (f .set) (f .value) t) ≡ true
 unfolding membersAt fineRequest
 group-base-fine t f o a w k =
-    and-right (isWord (f .key)) (fineMembers 0 (membersOf (tagsOf (f .set .low) (f .set .high)) (drop 4 t)))
+    and-right (isWord (f .key)) (fineMembers 0 (membersOf (tagsOf (f .set .low) (f .set .high)) (drop (f .value) t)))
     (sym (ap fineRequest (Asks.asks-group-base t f (passed .fields) k)) ∙ requestOf-fine t (words-every t w) (passed .refusal))
   where
     passed : Passed t f
@@ -44,7 +45,7 @@ past-data n group z = go (decLe n 7)
     go (no h) = omega arith
 
 -- A kind is four bits of a word.
-kind-bits : (w : ℕ) → w < 2 ^ 32 → w / 2 ^ 28 ≤ 15
+kind-bits : (w : ℕ) → w < 2 ^ 32 → kindIn w ≤ 15
 kind-bits w h = omega arith
 
 kind-last : (t : List ℕ) (f : Fields) (o : List ℕ) → Asked t f o → AreWords t → f .kind ≤ 15

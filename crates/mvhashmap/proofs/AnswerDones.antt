@@ -4,30 +4,31 @@ use mathlib.Core.Path.{_≡_, refl, sym, ap, _∙_}
 use mathlib.Core.Bool.{Bool, true, false, cond}
 use mathlib.Core.List.{List}
 use mathlib.Core.Option.{Option, none, some}
-use Prim.Native.Nat.{ℕ}
+use Prim.Native.Nat.{ℕ, zero, suc}
 use native.Mathlib.Omega.{arith}
 use borrow.Author.Tests.{ne-eqb}
-use lib.Dec.{eqb}
+use lib.Dec.{eqb·suc-zero}
 use Rattle.number.proofs.Halves.{valueOf-numberOf}
 use Rattle.number.specs.Words.{digits}
 use Rattle.delta.specs.Delta.{Delta, deltaWords}
-use Rattle.delta.proofs.Ops.{exact-opOf}
+use Rattle.delta.proofs.DeltaOps.{exact-opOf}
+use Rattle.types.specs.Refusal.{incarnationNotHigher, baseDiffers, nothingToExchange}
 use Rattle.types.specs.Value.{isExchanged, sameBytes}
-use Rattle.types.specs.Response.{response}
+use Rattle.types.specs.Response.{response, resolvedKind, unresolvedKind}
 use Rattle.request.specs.Set.{Member}
-use Rattle.model.specs.Rows.{Row, find, Edit, leave, set, edited}
+use Rattle.model.specs.Rows.{find, Edit, leave, edited}
 use Rattle.model.specs.Data.{Cell, write, delta, Entry, Ruling, refuse, accept, doneAnswer, Read, versioned, resolved, unresolved, uninitialized, dependency, applicationFailure, refusal, unlessDiffers, sameExchanged, baseOver, baseOnto, setBaseValue, mayWrite, writeValue, addDelta, markEstimate, remove, record-shortcut, materialized}
-use Rattle.model.specs.Group.{Update, Committed, Commits, commits, commit, firstBase, allAgree, setRawBaseValues, valueOf, exchangeRaw, exchangeIn, updateTaggedBaseValue, markGroup, removeGroup}
+use Rattle.model.specs.Group.{Update, Committed, Commits, commits, commit, firstBase, allAgree, setRawBaseValues, memberValue, exchangeRaw, exchangeIn, updateTaggedBaseValue, markGroup, removeGroup}
 use Rattle.model.specs.Model.{ruled}
 use Rattle.versioned_data.specs.Layout as Data
 use Rattle.versioned_data.specs.Layout.{entriesIn, dataValid}
-use Rattle.versioned_data.specs.Materialize.{answered, materializedOf}
-use Rattle.versioned_data.proofs.Rulings.{fits-leave, fits-present}
+use Rattle.versioned_data.specs.Materialize.{materializedRead, materializedOf}
+use Rattle.versioned_data.proofs.EntryRulings.{lack-leave, lack-present}
 use Rattle.group_slots.specs.Layout as Group
 use Rattle.group_slots.specs.Layout.{Groups}
 use Rattle.versioned_group_data.specs.Ruled as Ruled
-use Rattle.mvhashmap.specs.Answer.{doneRuling, respond, materializedRuling, resultBy, outBy, Put}
-use Rattle.mvhashmap.proofs.Works.{told}
+use Rattle.mvhashmap.specs.Answer.{doneRuling, respond, materializedRuling, resultBy, Put}
+use Rattle.mvhashmap.proofs.ServedWorks.{toldOf, told}
 
 abbrev pub IsDone : {A : Type 0} → Ruling A → Type 0
 IsDone (refuse n) = n ≡ 0 → ⊥
@@ -62,7 +63,7 @@ setBaseValue-done new (some e) = go (e .cell)
 
 pub writeValue-done : (incarnation : ℕ) (v : List ℕ) (own : Option Entry) → IsDone (writeValue incarnation v own)
 unfolding writeValue
-writeValue-done incarnation v own = by-test 7 (λ e. omega arith) (mayWrite incarnation own) _
+writeValue-done incarnation v own = by-test incarnationNotHigher (λ e. omega arith) (mayWrite incarnation own) _
 
 pub addDelta-done : (d : Delta) (own : Option Entry) → IsDone (addDelta d own)
 unfolding addDelta
@@ -87,14 +88,14 @@ setRawBaseValues-done key ms none group = go (commit key ms group)
     go : (o : Option Committed) → IsDone (firstBase ms o)
     go none = λ e. omega arith
     go (some g) = refl
-setRawBaseValues-done key ms (some u) group = by-test 8 (λ e. omega arith) (allAgree ms (u .members)) _
+setRawBaseValues-done key ms (some u) group = by-test baseDiffers (λ e. omega arith) (allAgree ms (u .members)) _
 
 pub updateTaggedBaseValue-done : (key tag : ℕ) (v : List ℕ) (own : Option Update) (group : Committed) → IsDone (updateTaggedBaseValue key tag v own group)
 unfolding updateTaggedBaseValue exchangeIn exchangeRaw
 updateTaggedBaseValue-done key tag v none group = λ e. omega arith
-updateTaggedBaseValue-done key tag v (some u) group = go (valueOf tag (u .members))
+updateTaggedBaseValue-done key tag v (some u) group = go (memberValue tag (u .members))
   where
-    fromRaw : (b : Bool) (c : Commits) → IsDone (cond b (refuse 12) (accept doneAnswer c))
+    fromRaw : (b : Bool) (c : Commits) → IsDone (cond b (refuse nothingToExchange) (accept doneAnswer c))
     fromRaw true c = λ e. omega arith
     fromRaw false c = refl
 
@@ -126,57 +127,54 @@ ruled-done f (accept answer a) h = h
 
 -- ---- the number
 
-module _ {A : Type 0} (fit : A → Bool) where
-  doneRuling-told : (R : Ruling A) → IsDone R → doneRuling (resultBy (told fit R)) ≡ told fit R
-  unfolding doneRuling told resultBy
+module _ {A : Type 0} (lack : A → ℕ) where
+  doneRuling-told : (R : Ruling A) → IsDone R → doneRuling (resultBy (told lack R)) ≡ told lack R
+  unfolding doneRuling told toldOf resultBy
   doneRuling-told (refuse n) h = rw (ne-eqb n 0 h) refl
-  doneRuling-told (accept answer a) h = go (fit a)
+  doneRuling-told (accept answer a) h = go (lack a)
     where
-      go : (b : Bool) → doneRuling (resultBy (cond b (accept answer tt) (refuse 14))) ≡ cond b (accept answer tt) (refuse 14)
-      go true = ap (λ (w : List ℕ). accept w tt) (sym h)
-      go false = refl
+      go : (n : ℕ) → doneRuling (resultBy (toldOf n answer)) ≡ toldOf n answer
+      go zero = ap (λ (w : List ℕ). accept w tt) (sym h)
+      go (suc n) = rw (eqb·suc-zero n) refl
 
   -- An operation's number, put into the answer slice, is what its rule tells.
-  pub done-told : (R : Ruling A) (n : ℕ) (o out : List ℕ) (r : ℕ) → IsDone R → n ≡ resultBy (told fit R) → Put (doneRuling n) o r out → Put (told fit R) o r out
+  pub done-told : (R : Ruling A) (n : ℕ) (o out : List ℕ) (r : ℕ) → IsDone R → n ≡ resultBy (told lack R) → Put (doneRuling n) o r out → Put (told lack R) o r out
   done-told R n o out r h e p = rw (ap doneRuling e ∙ doneRuling-told R h) at p
 
-pub data-number : (d : List ℕ) (key place : ℕ) (R : Ruling (Edit Entry)) → Data.resultOf d key place R ≡ resultBy (told (λ e. Data.fitsIn d (edited key place e (entriesIn d))) R)
+lack-result : (answer : List ℕ) (n : ℕ) → n ≡ resultBy (toldOf n answer)
+unfolding toldOf resultBy
+lack-result answer zero = refl
+lack-result answer (suc n) = refl
+
+pub data-number : (d : List ℕ) (key place : ℕ) (R : Ruling (Edit Entry)) → Data.resultOf d key place R ≡ resultBy (told (λ e. Data.lackIn d (edited key place e (entriesIn d))) R)
 unfolding Data.resultOf told resultBy
 data-number d key place (refuse n) = refl
-data-number d key place (accept answer e) = go (Data.fitsIn d (edited key place e (entriesIn d)))
-  where
-    go : (b : Bool) → cond {A = ℕ} b 0 14 ≡ resultBy (cond b (accept answer tt) (refuse 14))
-    go true = refl
-    go false = refl
+data-number d key place (accept answer e) = lack-result answer (Data.lackIn d (edited key place e (entriesIn d)))
 
-pub group-number : (g : List ℕ) (R : Ruling Groups) → Ruled.resultOf g R ≡ resultBy (told (Group.fitsIn g) R)
+pub group-number : (g : List ℕ) (R : Ruling Groups) → Ruled.resultOf g R ≡ resultBy (told (Group.lackIn g) R)
 unfolding Ruled.resultOf told resultBy
 group-number g (refuse n) = refl
-group-number g (accept answer x) = go (Group.fitsIn g x)
-  where
-    go : (b : Bool) → cond {A = ℕ} b 0 14 ≡ resultBy (cond b (accept answer tt) (refuse 14))
-    go true = refl
-    go false = refl
+group-number g (accept answer x) = lack-result answer (Group.lackIn g x)
 
 -- ---- materialising, which takes no slot
 
 module _ (d : List ℕ) (v : dataValid d ≡ true) (key place : ℕ) where
-  abbrev fit : Edit Entry → Bool
-  fit e = Data.fitsIn d (edited key place e (entriesIn d))
+  abbrev lack : Edit Entry → ℕ
+  lack e = Data.lackIn d (edited key place e (entriesIn d))
 
-  fitting : (answer : List ℕ) (e : Edit Entry) → fit e ≡ true → accept answer tt ≡ told fit (accept answer e)
-  unfolding told
+  fitting : (answer : List ℕ) (e : Edit Entry) → lack e ≡ 0 → accept answer tt ≡ told lack (accept answer e)
+  unfolding told toldOf
   fitting answer e h = rw h refl
 
   pub materialized-told : (read : Read) (own : Option Entry) → find key place (entriesIn d) ≡ own →
-      materializedRuling (materializedOf (materialized own read) read) ≡ told fit (materialized own read)
-  unfolding materialized materializedOf answered materializedRuling respond record-shortcut told
+      materializedRuling (materializedOf (materialized own read) read) ≡ told lack (materialized own read)
+  unfolding materialized materializedOf materializedRead materializedRuling respond record-shortcut told
   materialized-told (versioned at incarnation w) own e = refl
   materialized-told (resolved n) none e = refl
   materialized-told (resolved n) (some b) e =
-      ap (λ (k : ℕ). accept (response 2 (digits 4 k)) tt) (valueOf-numberOf n) ∙ fitting _ _ (fits-present d v key place b e _)
+      ap (λ (k : ℕ). accept (response resolvedKind (digits 4 k)) tt) (valueOf-numberOf n) ∙ fitting _ _ (lack-present d v key place b e _)
   materialized-told (unresolved x) own e =
-      ap (λ (y : Delta). accept (response 3 (deltaWords y)) tt) (exact-opOf x) ∙ fitting _ leave (fits-leave d v key place)
+      ap (λ (y : Delta). accept (response unresolvedKind (deltaWords y)) tt) (exact-opOf x) ∙ fitting _ leave (lack-leave d v key place)
   materialized-told uninitialized own e = refl
   materialized-told (dependency index) own e = refl
   materialized-told applicationFailure own e = refl
