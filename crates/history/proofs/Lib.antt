@@ -1,7 +1,7 @@
-mod Words
-mod Moves
-mod Requests
-mod Lines
-mod States
-mod Buffered
-mod Turns
+mod InputWords
+mod InputMoves
+mod InputRequests
+mod LineLaws
+mod StateLaws
+mod InputBuffered
+mod TurnLaws

@@ -3,9 +3,8 @@
 use mathlib.Core.Bool.{cond}
 use mathlib.Core.List.{List, [], _∷_, _++_}
 use Prim.Native.Nat.{ℕ, _+_, _/_, _%_, _^_}
-use lib.Dec.{ltb, eqb}
+use lib.Dec.{ltb}
 use Rattle.model.specs.Model.{Outcome, refused, answered}
-use Rattle.mvhashmap.specs.Run.{answerWords}
 
 -- A digit below 16, in capitals.
 unfoldable pub digitOf : ℕ → ℕ
@@ -35,7 +34,3 @@ decimal n = cond (ltb n 10) (digitOf n ∷ []) (digitOf (n / 10) ∷ digitOf (n 
 unfoldable pub lineOf : Outcome → List ℕ
 lineOf (answered words) = hexWords words ++ (10 ∷ [])
 lineOf (refused n) = 110 ∷ 111 ∷ 32 ∷ (decimal n ++ (10 ∷ []))
-
--- What a result and the answer slice show (`seenOf` of a call).
-unfoldable pub shown : ℕ → List ℕ → Outcome
-shown result answer = cond (eqb result 0) (answered (answerWords answer)) (refused result)

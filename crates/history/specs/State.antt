@@ -2,17 +2,19 @@
 use mathlib.Core.Path.{_≡_}
 use mathlib.Core.Bool.{true, false, cond, _||_}
 use mathlib.Core.List.{List}
-use Prim.Native.Nat.{ℕ, _-_, _*_, _<_, _≤_}
+use Prim.Native.Nat.{ℕ, suc, _-_, _*_, _<_, _≤_}
 use lib.Dec.{leb}
 use lib.ListN.{length, take, drop}
+use Rattle.types.specs.Response.{answerWidth}
+use Rattle.request.specs.Table.{longestCount}
 use Rattle.history.specs.declared.state.State.{State}
 
--- The bytes of the longest request, and of the longest line.
-unfoldable pub longestRequest : ℕ
-longestRequest = 4 * 454
+-- The bytes of the longest request, and of the longest line: 8 digits a word, and a space or the line's end.
+abbrev pub longestRequest : ℕ
+longestRequest = 4 * suc longestCount
 
-unfoldable pub longestLine : ℕ
-longestLine = 9 * 451
+abbrev pub longestLine : ℕ
+longestLine = 9 * answerWidth
 
 -- The state's bytes lie within a buffer of n bytes.
 pub record Within (n : ℕ) (s : State) : Type 0 where

@@ -7,16 +7,16 @@ use Prim.Native.Nat.{ℕ, _+_, _*_}
 use lib.Dec.{eqb}
 use lib.ListN.{length}
 use lib.Seq.{sets}
-use Rattle.mvhashmap.specs.Call.{callOf}
+use Rattle.mvhashmap.specs.Call.{Lent, callOf}
 use Rattle.mvhashmap.specs.Run.{seenOf}
 use Rattle.history.specs.Input.{requestIn}
 use Rattle.history.specs.Line.{lineOf}
 use Rattle.history.specs.State.{unread, Filled, flushedOf}
 use Rattle.history.specs.declared.state.State.{State}
 
--- The line for the unread bytes u, over the stores d and g and the answer slice a. No input prints nothing.
-unfoldable pub lineFor : List ℕ → List ℕ → List ℕ → List ℕ → List ℕ
-lineFor u d g a = cond (eqb (length u) 0) [] (lineOf (seenOf (callOf (requestIn u) d g a)))
+-- The line for the unread bytes u, over what is lent to the call. No input prints nothing.
+unfoldable pub lineFor : List ℕ → Lent → List ℕ
+lineFor u l = cond (eqb (length u) 0) [] (lineOf (seenOf (callOf (requestIn u) l)))
 
 -- The state after that line.
 unfoldable pub after : State → List ℕ → List ℕ → State
@@ -30,19 +30,17 @@ after s u line =
     }
 
 -- The request that the unread bytes u start with is answered.
-pub record Answered (s : State) (u d g a o : List ℕ) (r : State) (d-after g-after a-after o-after : List ℕ) : Type 0 where
-  pub data-words : d-after ≡ callOf (requestIn u) d g a .data-words
-  pub group-words : g-after ≡ callOf (requestIn u) d g a .group-words
-  pub answer : a-after ≡ callOf (requestIn u) d g a .out
-  pub line : o-after ≡ sets o (s .put) (lineFor u d g a)
-  pub state : r ≡ after s u (lineFor u d g a)
+pub record Answered (s : State) (u : List ℕ) (l : Lent) (o : List ℕ) (r : State) (l-after : Lent) (o-after : List ℕ) : Type 0 where
+  pub lent : l-after ≡ callOf (requestIn u) l .lent
+  pub line : o-after ≡ sets o (s .put) (lineFor u l)
+  pub state : r ≡ after s u (lineFor u l)
 
 -- The state with room for a line in a buffer of n bytes.
 unfoldable pub roomy : ℕ → State → State
 roomy n s = record { at = s .at; end = s .end; put = flushedOf n (s .put); over = s .over; stop = s .stop }
 
 -- The whole turn, from the bytes b to the bytes c that it reads on to.
-pub record Turned (s : State) (b d g a o : List ℕ) (r : State) (c d-after g-after a-after o-after : List ℕ) : Type 0 where
+pub record Turned (s : State) (b : List ℕ) (l : Lent) (o : List ℕ) (r : State) (c : List ℕ) (l-after : Lent) (o-after : List ℕ) : Type 0 where
   pub filled : State
   pub reads-on : Filled s b filled c
-  pub answered : Answered (roomy (length o) filled) (unread filled c) d g a o r d-after g-after a-after o-after
+  pub answered : Answered (roomy (length o) filled) (unread filled c) l o r l-after o-after

@@ -1,11 +1,14 @@
 // The lines that are printed. The kit's `io::hex` prints small letters, so the digits are our own.
-use super::word;
+use types::response;
 ghost use mathlib.Core.Path.{_≡_};
-ghost use Prim.Native.Nat.{_+_, _*_, _%_, _^_, _<_, _≤_};
+ghost use Prim.Native.Nat.{_+_, _*_, _<_, _≤_};
 ghost use lib.ListN.{length, getD};
 ghost use lib.Seq.{sets};
+ghost use Rattle.types.specs.Response.{countIn, answerWidth};
 ghost use Rattle.model.specs.Model.{refused, answered};
-ghost use Rattle.history.specs.Line.{digitOf, hexWord, spaced, decimal, lineOf, shown};
+ghost use Rattle.mvhashmap.specs.Run.{shown};
+ghost use Rattle.history.specs.Line.{digitOf, hexWord, spaced, decimal, lineOf};
+ghost use Rattle.history.specs.State.{longestLine};
 
 // A digit below 16, in capitals.
 fn digit(d: u32) -> u8
@@ -96,15 +99,15 @@ fn put_refusal(out: &mut [u8], at: usize, n: u32) -> usize
 // Puts the line of what a call shows, and answers the place after it.
 pub fn put(out: &mut [u8], at: usize, result: u32, answer: &[u32]) -> usize
     requires small { ⌜ result < 100 ⌝ }
-    requires whole { ⌜ 451 ≤ length (now answer) ⌝ }
-    requires few { ⌜ (result ≡ 0 → getD (now answer) 0 0 % 2 ^ 28 ≤ 450) ⌝ }
-    requires room { ⌜ at + 9 * 451 ≤ length (now out) ⌝ }
+    requires whole { ⌜ answerWidth ≤ length (now answer) ⌝ }
+    requires few { ⌜ (result ≡ 0 → countIn (getD (now answer) 0 0) < answerWidth) ⌝ }
+    requires room { ⌜ at + longestLine ≤ length (now out) ⌝ }
     ensures put { λ _. ⌜ now (out .exit) ≡ sets (now (out .entry)) at (lineOf (shown result (now (answer .entry)))) ⌝ }
     ensures after { λ r. ⌜ r ≡ at + length (lineOf (shown result (now (answer .entry)))) ⌝ }
 {
     if result != 0 {
         return put_refusal(out, at, result);
     }
-    let n = (answer[0] % word::COUNT_RANGE) as usize + 1;
+    let n = response::count_in(answer[0]) + 1;
     put_answer(out, at, &answer[..n])
 }

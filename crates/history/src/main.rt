@@ -9,11 +9,17 @@ mod word;
 use state::State;
 ghost use mathlib.Core.Path.{_≡_};
 ghost use mathlib.Core.Bool.{true};
-ghost use Prim.Native.Nat.{_≤_};
+ghost use Prim.Native.Nat.{suc, _≤_};
 ghost use lib.ListN.{length};
-ghost use Rattle.versioned_data.specs.Layout.{dataValid};
-ghost use Rattle.group_slots.specs.Layout.{groupValid};
+ghost use Rattle.types.specs.Response.{answerWidth};
+ghost use Rattle.request.specs.Table.{longestCount};
+ghost use Rattle.mvhashmap.specs.Call.{stores, sound};
 ghost use Rattle.history.specs.State.{longestRequest, longestLine};
+
+// The words of the buffer, and of the answer slice as long as it; the words of each store.
+const BUFFER_WORDS: usize = 512;
+
+const STORE_WORDS: usize = 16384;
 
 // A proved loop has to end, and nothing says that the input does. So the loop counts its turns
 // down, from a number that no run uses up.
@@ -26,10 +32,9 @@ fn run(
     out: &mut [u8],
 )
     requires bytes { ⌜ longestRequest ≤ length (now bytes) ⌝ }
-    requires words { ⌜ 454 ≤ length (now words) ⌝ }
-    requires data { ⌜ dataValid (now «data») ≡ true ⌝ }
-    requires group { ⌜ groupValid (now group) ≡ true ⌝ }
-    requires answer { ⌜ 451 ≤ length (now answer) ⌝ }
+    requires words { ⌜ suc longestCount ≤ length (now words) ⌝ }
+    requires sound { ⌜ sound (stores (now «data») (now group)) ≡ true ⌝ }
+    requires answer { ⌜ answerWidth ≤ length (now answer) ⌝ }
     requires room { ⌜ longestLine ≤ length (now out) ⌝ }
 {
     let mut s = State {
@@ -50,10 +55,10 @@ fn run(
 
 fn main() {
     let mut bytes = io::large_buffer();
-    let mut words = [0u32; 512];
-    let mut data = [0u32; 16384];
-    let mut group = [0u32; 16384];
-    let mut answer = [0u32; 512];
+    let mut words = [0u32; BUFFER_WORDS];
+    let mut data = [0u32; STORE_WORDS];
+    let mut group = [0u32; STORE_WORDS];
+    let mut answer = [0u32; BUFFER_WORDS];
     let mut out = io::large_buffer();
     run(
         &mut bytes,

@@ -1,4 +1,6 @@
 // Where the run stands, and the reading and writing that it needs.
+use request::table::LONGEST_COUNT;
+use types::response::ANSWER_WIDTH;
 ghost use mathlib.Core.Path.{_≡_};
 ghost use Prim.Native.Nat.{_+_, _≤_};
 ghost use lib.ListN.{length, drop};
@@ -6,9 +8,9 @@ ghost use lib.Seq.{paste};
 ghost use Rattle.history.specs.State.{longestRequest, longestLine, Within, Filled, flushedOf};
 
 // The bytes of the longest request, and of the longest line.
-const LONGEST: usize = 1816;
+const LONGEST: usize = 4 * (LONGEST_COUNT + 1);
 
-const LINE: usize = 4059;
+const LINE: usize = 9 * ANSWER_WIDTH;
 
 pub struct State {
     // Bytes that are read and not yet used: from `at` to `end` of the input's buffer.

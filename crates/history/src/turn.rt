@@ -6,10 +6,11 @@ use super::state::State;
 use mvhashmap::call;
 ghost use mathlib.Core.Path.{_≡_};
 ghost use mathlib.Core.Bool.{true};
-ghost use Prim.Native.Nat.{_+_, _≤_};
+ghost use Prim.Native.Nat.{suc, _+_, _≤_};
 ghost use lib.ListN.{length};
-ghost use Rattle.versioned_data.specs.Layout.{dataValid};
-ghost use Rattle.group_slots.specs.Layout.{groupValid};
+ghost use Rattle.types.specs.Response.{answerWidth};
+ghost use Rattle.request.specs.Table.{longestCount};
+ghost use Rattle.mvhashmap.specs.Call.{stores, lent, sound};
 ghost use Rattle.history.specs.State.{longestRequest, longestLine, Within, unread};
 ghost use Rattle.history.specs.Turn.{Answered, Turned};
 
@@ -24,16 +25,14 @@ fn answered(
     s: State,
 ) -> State
     requires within { ⌜ Within (length (now bytes)) s ⌝ }
-    requires words { ⌜ 454 ≤ length (now words) ⌝ }
-    requires data { ⌜ dataValid (now «data») ≡ true ⌝ }
-    requires group { ⌜ groupValid (now group) ≡ true ⌝ }
-    requires answer { ⌜ 451 ≤ length (now answer) ⌝ }
+    requires words { ⌜ suc longestCount ≤ length (now words) ⌝ }
+    requires sound { ⌜ sound (stores (now «data») (now group)) ≡ true ⌝ }
+    requires answer { ⌜ answerWidth ≤ length (now answer) ⌝ }
     requires room { ⌜ s .put + longestLine ≤ length (now out) ⌝ }
     ensures within { λ r. ⌜ Within (length (now (bytes .entry))) r ⌝ }
     ensures waits { λ r. ⌜ r .put ≤ length (now (out .exit)) ⌝ }
-    ensures data { λ _. ⌜ dataValid (now («data» .exit)) ≡ true ⌝ }
-    ensures group { λ _. ⌜ groupValid (now (group .exit)) ≡ true ⌝ }
-    ensures answered { λ r. ⌜ Answered s (unread s (now (bytes .entry))) (now («data» .entry)) (now (group .entry)) (now (answer .entry)) (now (out .entry)) r (now («data» .exit)) (now (group .exit)) (now (answer .exit)) (now (out .exit)) ⌝ }
+    ensures sound { λ _. ⌜ sound (stores (now («data» .exit)) (now (group .exit))) ≡ true ⌝ }
+    ensures answered { λ r. ⌜ Answered s (unread s (now (bytes .entry))) (lent (now («data» .entry)) (now (group .entry)) (now (answer .entry))) (now (out .entry)) r (lent (now («data» .exit)) (now (group .exit)) (now (answer .exit))) (now (out .exit)) ⌝ }
 {
     let at = s.at;
     let end = s.end;
@@ -71,17 +70,15 @@ pub fn turn(
 ) -> State
     requires within { ⌜ Within (length (now bytes)) s ⌝ }
     requires bytes { ⌜ longestRequest ≤ length (now bytes) ⌝ }
-    requires words { ⌜ 454 ≤ length (now words) ⌝ }
-    requires data { ⌜ dataValid (now «data») ≡ true ⌝ }
-    requires group { ⌜ groupValid (now group) ≡ true ⌝ }
-    requires answer { ⌜ 451 ≤ length (now answer) ⌝ }
+    requires words { ⌜ suc longestCount ≤ length (now words) ⌝ }
+    requires sound { ⌜ sound (stores (now «data») (now group)) ≡ true ⌝ }
+    requires answer { ⌜ answerWidth ≤ length (now answer) ⌝ }
     requires waits { ⌜ s .put ≤ length (now out) ⌝ }
     requires room { ⌜ longestLine ≤ length (now out) ⌝ }
     ensures within { λ r. ⌜ Within (length (now (bytes .exit))) r ⌝ }
     ensures waits { λ r. ⌜ r .put ≤ length (now (out .exit)) ⌝ }
-    ensures data { λ _. ⌜ dataValid (now («data» .exit)) ≡ true ⌝ }
-    ensures group { λ _. ⌜ groupValid (now (group .exit)) ≡ true ⌝ }
-    ensures turned { λ r. ⌜ Turned s (now (bytes .entry)) (now («data» .entry)) (now (group .entry)) (now (answer .entry)) (now (out .entry)) r (now (bytes .exit)) (now («data» .exit)) (now (group .exit)) (now (answer .exit)) (now (out .exit)) ⌝ }
+    ensures sound { λ _. ⌜ sound (stores (now («data» .exit)) (now (group .exit))) ≡ true ⌝ }
+    ensures turned { λ r. ⌜ Turned s (now (bytes .entry)) (lent (now («data» .entry)) (now (group .entry)) (now (answer .entry))) (now (out .entry)) r (now (bytes .exit)) (lent (now («data» .exit)) (now (group .exit)) (now (answer .exit))) (now (out .exit)) ⌝ }
 {
     let f = state::filled(bytes, s);
     let put = state::flushed(out, f.put);

@@ -3,10 +3,7 @@ ghost use mathlib.Core.Path.{_≡_};
 ghost use mathlib.Core.List.{_++_};
 ghost use Prim.Native.Nat.{_+_, _*_, _<_, _≤_};
 ghost use lib.ListN.{length, drop};
-ghost use Rattle.history.specs.Input.{wordOf, wordsOf};
-
-// Bits 0 to 27 of a head, a request's or an answer's, count the words after it.
-pub const COUNT_RANGE: u32 = 268435456;
+ghost use Rattle.history.specs.Input.{wordFrom, wordsFrom};
 
 fn wide(x: u8) -> u32
     ensures same { λ r. ⌜ (r ≡ x) × (r < 256) ⌝ }
@@ -17,7 +14,7 @@ fn wide(x: u8) -> u32
 // The word that the four bytes at `at` hold.
 pub fn word_at(b: &[u8], at: usize) -> u32
     requires inside { ⌜ at + 4 ≤ length (now b) ⌝ }
-    ensures word { λ r. ⌜ r ≡ wordOf (drop at (now (b .entry))) ⌝ }
+    ensures word { λ r. ⌜ r ≡ wordFrom (drop at (now (b .entry))) ⌝ }
 {
     let b0 = wide(b[at]);
     let b1 = wide(b[at + 1]);
@@ -30,7 +27,7 @@ pub fn word_at(b: &[u8], at: usize) -> u32
 pub fn load(b: &[u8], words: &mut [u32], n: usize)
     requires whole { ⌜ 4 * n ≤ length (now b) ⌝ }
     requires room { ⌜ n ≤ length (now words) ⌝ }
-    ensures loaded { λ _. ⌜ now (words .exit) ≡ wordsOf n (now (b .entry)) ++ drop n (now (words .entry)) ⌝ }
+    ensures loaded { λ _. ⌜ now (words .exit) ≡ wordsFrom n (now (b .entry)) ++ drop n (now (words .entry)) ⌝ }
 {
     let mut i = 0;
     while i < n {

@@ -1,9 +1,9 @@
 use native.Mathlib.Omega.{arith}
 use Prim.Native.Nat.{ℕ}
-use lib.ListN.{length-replicate}
-use Rattle.versioned_data.proofs.Cleared as Data
-use Rattle.group_slots.proofs.Cleared as Group
-use Rattle.history.proofs.States.{request-bytes, line-bytes}
+use lib.ListN.{replicate, length-replicate}
+use Rattle.versioned_data.proofs.EntriesCleared as Data
+use Rattle.group_slots.proofs.GroupCleared as Group
+use Rattle.mvhashmap.proofs.CallParts.{sound-both}
 use borrow.Author.Needs.{needs}
 use Rattle.history.proofs.main.Statement.{statement}
 use Rattle.history.proofs.main.Tie as tie
@@ -33,7 +33,18 @@ slice-aggregate-run-6 : tie.Need-slice-aggregate-run-6
 slice-aggregate-run-6 c = search needs
 
 run-requires : tie.Need-run-requires
-run-requires c κs = (omega (arith, request-bytes, c .before .before .before .before .before .before .before .large-buffer .ensures), (omega (arith, length-replicate {A = ℕ} 512 0), (Data.valid-cleared 16384, (Group.valid-cleared 16384, (omega (arith, length-replicate {A = ℕ} 512 0), omega (arith, line-bytes, c .before .before .before .before .before .before .large-buffer2 .ensures))))))
+run-requires c κs =
+    let at-bytes = c .before .before .before .before .before .before .before in
+    let at-out = c .before .before .before .before .before .before in (
+      omega (arith, at-bytes .large-buffer .ensures),
+      (
+        omega (arith, length-replicate {A = ℕ} 512 0),
+        (
+          sound-both (replicate 16384 0) (replicate 16384 0) (Data.valid-cleared 16384) (Group.valid-cleared 16384),
+          (omega (arith, length-replicate {A = ℕ} 512 0), omega (arith, at-out .large-buffer2 .ensures)),
+        ),
+      ),
+    )
 
 returns : tie.Need-returns
 returns c = search needs

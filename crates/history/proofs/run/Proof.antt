@@ -2,8 +2,7 @@ use mathlib.Core.Path.{_≡_}
 use mathlib.Core.Bool.{true}
 use Prim.Native.Nat.{_≤_}
 use lib.ListN.{length, length-take}
-use Rattle.versioned_data.specs.Layout.{dataValid}
-use Rattle.group_slots.specs.Layout.{groupValid}
+use Rattle.mvhashmap.specs.Call.{stores, sound}
 use Rattle.history.specs.State.{Within}
 use borrow.Author.Needs.{needs}
 use native.Mathlib.Omega.{arith}
@@ -14,8 +13,7 @@ abbrev Inv-loop : tie.InvT-loop
 Inv-loop bytes₀ words₀ data₀ group₀ answer₀ out₀ s₀ turns₀ bytes words data-words group answer out s turns =
     Within (length bytes) s
     × (s .put ≤ length out)
-    × (dataValid data-words ≡ true)
-    × (groupValid group ≡ true)
+    × (sound (stores data-words group) ≡ true)
     × (length bytes ≡ length bytes₀)
     × (length words ≡ length words₀)
     × (length data-words ≡ length data₀)
@@ -30,7 +28,24 @@ loop-holds : tie.Need-loop-holds Inv-loop μ-loop
 loop-holds c = search needs
 
 turn-requires : tie.Need-turn-requires Inv-loop μ-loop
-turn-requires c κs = (c .before .before .before .before .before .before .before .before .before .loop .inv .0, (omega (arith, c .before .before .before .before .before .before .before .before .before .before .before .before .before .before .before .before .pre .0, c .before .before .before .before .before .before .before .before .before .loop .inv .4), (omega (arith, c .before .before .before .before .before .before .before .before .before .before .before .before .before .before .before .before .pre .1 .0, c .before .before .before .before .before .before .before .before .before .loop .inv .5), (c .before .before .before .before .before .before .before .before .before .loop .inv .2, (c .before .before .before .before .before .before .before .before .before .loop .inv .3, (omega (arith, c .before .before .before .before .before .before .before .before .before .before .before .before .before .before .before .before .pre .1 .1 .1 .1 .0, c .before .before .before .before .before .before .before .before .before .loop .inv .8), (c .before .before .before .before .before .before .before .before .before .loop .inv .1, omega (arith, c .before .before .before .before .before .before .before .before .before .before .before .before .before .before .before .before .pre .1 .1 .1 .1 .1, c .before .before .before .before .before .before .before .before .before .loop .inv .9))))))))
+turn-requires c κs =
+    let at-start = c .before .before .before .before .before .before .before .before .before .before .before .before .before .before .before .before in
+    let at-loop = c .before .before .before .before .before .before .before .before .before in (
+      at-loop .loop .inv .0,
+      (
+        omega (arith, at-start .pre .0, at-loop .loop .inv .3),
+        (
+          omega (arith, at-start .pre .1 .0, at-loop .loop .inv .4),
+          (
+            at-loop .loop .inv .2,
+            (
+              omega (arith, at-start .pre .1 .1 .1 .0, at-loop .loop .inv .7),
+              (at-loop .loop .inv .1, omega (arith, at-start .pre .1 .1 .1 .1, at-loop .loop .inv .8)),
+            ),
+          ),
+        ),
+      ),
+    )
 
 sub-turns : tie.Need-sub-turns Inv-loop μ-loop
 sub-turns c = search needs
@@ -39,7 +54,18 @@ loop-less : tie.Need-loop-less Inv-loop μ-loop
 loop-less c = search needs
 
 loop-again : tie.Need-loop-again Inv-loop μ-loop
-loop-again c = (c .before .before .before .before .before .before .before .before .before .before .before .before .turn .ensures .0, c .before .before .before .before .before .before .before .before .before .before .before .before .turn .ensures .1 .0, c .before .before .before .before .before .before .before .before .before .before .before .before .turn .ensures .1 .1 .0, c .before .before .before .before .before .before .before .before .before .before .before .before .turn .ensures .1 .1 .1 .0, omega arith, omega arith, omega arith, omega arith, omega arith, omega arith)
+loop-again c =
+    let at-turn = c .before .before .before .before .before .before .before .before .before .before .before .before in (
+      at-turn .turn .ensures .0,
+      at-turn .turn .ensures .1 .0,
+      at-turn .turn .ensures .1 .1 .0,
+      omega arith,
+      omega arith,
+      omega arith,
+      omega arith,
+      omega arith,
+      omega arith,
+    )
 
 slice-reshare-prefix-write-all : tie.Need-slice-reshare-prefix-write-all Inv-loop μ-loop
 slice-reshare-prefix-write-all c = search needs

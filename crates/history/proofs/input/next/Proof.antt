@@ -1,19 +1,26 @@
-use Rattle.history.proofs.Requests.{found-short, found-many, found-cut, found-request}
+use mathlib.Core.Path.{ap, _∙_}
+use Prim.Native.Nat.{ℕ}
+use Rattle.types.specs.Response.{countIn}
+use Rattle.history.proofs.InputRequests.{found-short, found-many, found-cut, found-request}
 use borrow.Author.Needs.{needs}
 use Rattle.history.proofs.input.next.Statement.{statement}
 use Rattle.history.proofs.input.next.Tie as tie
 
 returns : tie.Need-returns
-returns c = found-short (c .before .before .before .args .b .now) (c .before .before .before .args .words .now) (c .if1 .taken)
+returns c = let at-start = c .before .before .before in found-short (at-start .args .b .now) (at-start .args .words .now) (c .if1 .taken)
 
 word-at-requires : tie.Need-word-at-requires
 word-at-requires c κs = search needs
 
-returns-2 : tie.Need-returns-2
-returns-2 c = found-many (c .before .before .before .before .before .args .b .now) (c .before .before .before .before .before .args .words .now) _ (c .before .word-at .ensures) (c .before .before .if1 .left) (c .if2 .taken)
+count-in-requires : tie.Need-count-in-requires
+count-in-requires c κs = search needs
 
-cast-n : tie.Need-cast-n
-cast-n c = search needs
+returns-2 : tie.Need-returns-2
+returns-2 c =
+    let at-start = c .before .before .before .before .before .before in
+    let at-length = c .before .before .before in
+    found-many (at-start .args .b .now) (at-start .args .words .now) _ (c .before .count-in .ensures ∙ ap (λ (w : ℕ). countIn w) (c .before .before .word-at .ensures))
+    (at-length .if1 .left) (c .if2 .taken)
 
 add-n : tie.Need-add-n
 add-n c = search needs
@@ -22,7 +29,12 @@ mul-if3 : tie.Need-mul-if3
 mul-if3 c = search needs
 
 returns-3 : tie.Need-returns-3
-returns-3 c = found-cut (c .before .before .before .before .before .before .args .b .now) (c .before .before .before .before .before .before .args .words .now) _ (c .before .before .word-at .ensures) (c .before .before .before .if1 .left) (c .before .if2 .left) (c .if3 .taken)
+returns-3 c =
+    let at-start = c .before .before .before .before .before .before .before in
+    let at-length = c .before .before .before .before in
+    let at-head = c .before .before .before in
+    found-cut (at-start .args .b .now) (at-start .args .words .now) _ (c .before .before .count-in .ensures ∙ ap (λ (w : ℕ). countIn w) (at-head .word-at .ensures))
+    (at-length .if1 .left) (c .before .if2 .left) (c .if3 .taken)
 
 load-requires : tie.Need-load-requires
 load-requires c κs = search needs
@@ -31,7 +43,15 @@ same-length : tie.Need-same-length
 same-length c = search needs
 
 returns-4 : tie.Need-returns-4
-returns-4 c = found-request (c .before .before .before .before .before .before .before .before .before .before .args .b .now) (c .before .before .before .before .before .before .before .before .before .before .args .words .now) _ (c .before .before .before .before .before .before .word-at .ensures) (c .before .before .before .before .before .before .before .if1 .left) (c .before .before .before .before .before .if2 .left) (c .before .before .before .before .if3 .left) _ (c .before .before .load .ensures)
+returns-4 c =
+    let at-start = c .before .before .before .before .before .before .before .before .before .before .before in
+    let at-length = c .before .before .before .before .before .before .before .before in
+    let at-head = c .before .before .before .before .before .before .before in
+    let at-count = c .before .before .before .before .before .before in
+    let at-most = c .before .before .before .before .before in
+    let at-end = c .before .before .before .before in
+    found-request (at-start .args .b .now) (at-start .args .words .now) _ (at-count .count-in .ensures ∙ ap (λ (w : ℕ). countIn w) (at-head .word-at .ensures))
+    (at-length .if1 .left) (at-most .if2 .left) (at-end .if3 .left) _ (c .before .before .load .ensures)
 
 pub next-spec : {M : Type 1} → statement M
 next-spec =
@@ -39,8 +59,8 @@ next-spec =
     (tie.spec
     returns
     word-at-requires
+    count-in-requires
     returns-2
-    cast-n
     add-n
     mul-if3
     returns-3

@@ -1,5 +1,5 @@
 use mathlib.Core.Path.{refl}
-use Rattle.history.proofs.Lines.{digit-low, digit-high}
+use Rattle.history.proofs.LineLaws.{digit-low, digit-high}
 use borrow.Author.Needs.{needs}
 use Rattle.history.proofs.line.digit.Statement.{statement}
 use Rattle.history.proofs.line.digit.Tie as tie

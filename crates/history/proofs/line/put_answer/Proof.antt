@@ -1,6 +1,6 @@
 use native.Mathlib.Omega.{arith}
 use lib.ListN.{length-set}
-use Rattle.history.proofs.Lines.{answer-put, answer-after}
+use Rattle.history.proofs.LineLaws.{answer-put, answer-after}
 use borrow.Author.Needs.{needs}
 use Rattle.history.proofs.line.put_answer.Statement.{statement}
 use Rattle.history.proofs.line.put_answer.Tie as tie
@@ -36,7 +36,10 @@ same-length : tie.Need-same-length
 same-length c = simp length-set (omega arith)
 
 returns : tie.Need-returns
-returns c = (answer-put (c .before .before .before .before .before .before .before .before .before .before .before .before .args .out .now) _ _ (c .before .before .before .before .before .before .before .before .before .before .before .before .args .words .now) (c .before .before .before .before .before .before .before .before .before .before .before .before .args .at) _ (c .before .before .before .before .before .before .before .before .before .before .before .before .pre .0) (c .before .before .before .before .before .before .before .put-word .ensures) (c .before .before .put-spaced .ensures .0) (c .before .before .put-spaced .ensures .1), answer-after (c .before .before .before .before .before .before .before .before .before .before .before .before .args .out .now) _ _ (c .before .before .before .before .before .before .before .before .before .before .before .before .args .words .now) (c .before .before .before .before .before .before .before .before .before .before .before .before .args .at) _ (c .before .before .before .before .before .before .before .before .before .before .before .before .pre .0) (c .before .before .before .before .before .before .before .put-word .ensures) (c .before .before .put-spaced .ensures .0) (c .before .before .put-spaced .ensures .1))
+returns c =
+    let at-start = c .before .before .before .before .before .before .before .before .before .before .before .before in
+    let at-put-word = c .before .before .before .before .before .before .before in
+    (answer-put (at-start .args .out .now) _ _ (at-start .args .words .now) (at-start .args .at) _ (at-start .pre .0) (at-put-word .put-word .ensures) (c .before .before .put-spaced .ensures .0) (c .before .before .put-spaced .ensures .1), answer-after (at-start .args .out .now) _ _ (at-start .args .words .now) (at-start .args .at) _ (at-start .pre .0) (at-put-word .put-word .ensures) (c .before .before .put-spaced .ensures .0) (c .before .before .put-spaced .ensures .1))
 
 pub put-answer-spec : {M : Type 1} → statement M
 put-answer-spec =

@@ -1,6 +1,6 @@
 use native.Mathlib.Omega.{arith}
 use lib.ListN.{length-set}
-use Rattle.history.proofs.Lines.{decimal-one, decimal-two, length-one, length-two}
+use Rattle.history.proofs.LineLaws.{decimal-one, decimal-two, length-one, length-two}
 use borrow.Author.Needs.{needs}
 use Rattle.history.proofs.line.put_decimal.Statement.{statement}
 use Rattle.history.proofs.line.put_decimal.Tie as tie

@@ -1,6 +1,6 @@
 use native.Mathlib.Omega.{arith}
 use lib.ListN.{length-set}
-use Rattle.history.proofs.Lines.{length-decimal, length-refused, refusal-put, refusal-length}
+use Rattle.history.proofs.LineLaws.{length-decimal, length-refused, refusal-put, refusal-length}
 use borrow.Author.Needs.{needs}
 use Rattle.history.proofs.line.put_refusal.Statement.{statement}
 use Rattle.history.proofs.line.put_refusal.Tie as tie

@@ -4,7 +4,7 @@ use Prim.Native.Nat.{_+_, _-_, _*_, _≤_}
 use lib.ListN.{length, drop, length-set}
 use lib.Seq.{sets}
 use Rattle.history.specs.Line.{spaced}
-use Rattle.history.proofs.Lines.{spaced-length, spaced-again, spaced-done}
+use Rattle.history.proofs.LineLaws.{spaced-length, spaced-again, spaced-done}
 use borrow.Author.Needs.{needs}
 use native.Mathlib.Omega.{arith}
 use Rattle.history.proofs.line.put_spaced.Statement.{statement}
@@ -44,7 +44,10 @@ loop-less : tie.Need-loop-less Inv-loop μ-loop
 loop-less c = search needs
 
 loop-again : tie.Need-loop-again Inv-loop μ-loop
-loop-again c = (omega arith, omega arith, spaced-length (c .before .before .before .before .before .before .before .before .before .args .out .now) (c .before .before .before .before .before .before .before .before .before .args .words .now) (c .before .before .before .before .before .before .before .before .before .args .at) (c .before .before .before .before .before .before .loop .out) _ (c .before .before .before .before .before .before .loop .end) (getD (c .before .before .before .before .before .before .before .before .before .args .words .now) (c .before .before .before .before .before .before .loop .i) 0) (c .before .before .put-word .ensures) (c .before .before .before .before .before .before .loop .inv .2), spaced-again (c .before .before .before .before .before .before .before .before .before .args .out .now) (c .before .before .before .before .before .before .before .before .before .args .words .now) (c .before .before .before .before .before .before .before .before .before .args .at) (c .before .before .before .before .before .before .loop .out) _ (c .before .before .before .before .before .before .loop .end) (c .before .before .before .before .before .before .loop .i) (getD (c .before .before .before .before .before .before .before .before .before .args .words .now) (c .before .before .before .before .before .before .loop .i) 0) (c .before .before .before .before .before .before .loop .inv .3) (omega arith) refl (c .before .before .put-word .ensures))
+loop-again c =
+    let at-start = c .before .before .before .before .before .before .before .before .before in
+    let at-loop = c .before .before .before .before .before .before in
+    (omega arith, omega arith, spaced-length (at-start .args .out .now) (at-start .args .words .now) (at-start .args .at) (at-loop .loop .out) _ (at-loop .loop .end) (getD (at-start .args .words .now) (at-loop .loop .i) 0) (c .before .before .put-word .ensures) (at-loop .loop .inv .2), spaced-again (at-start .args .out .now) (at-start .args .words .now) (at-start .args .at) (at-loop .loop .out) _ (at-loop .loop .end) (at-loop .loop .i) (getD (at-start .args .words .now) (at-loop .loop .i) 0) (at-loop .loop .inv .3) (omega arith) refl (c .before .before .put-word .ensures))
 
 same-length : tie.Need-same-length Inv-loop μ-loop
 same-length c = search needs

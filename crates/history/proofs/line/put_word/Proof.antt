@@ -1,5 +1,5 @@
 use lib.ListN.{length-set}
-use Rattle.history.proofs.Lines.{word-put}
+use Rattle.history.proofs.LineLaws.{word-put}
 use native.Mathlib.Omega.{arith}
 use borrow.Author.Needs.{needs}
 use Rattle.history.proofs.line.put_word.Statement.{statement}
@@ -78,7 +78,11 @@ same-length : tie.Need-same-length
 same-length c = simp length-set (omega arith)
 
 returns : tie.Need-returns
-returns c = word-put (c .before .before .before .before .before .before .before .before .before .args .out .now) (c .before .before .before .before .before .before .before .before .before .args .at) (c .before .before .before .before .before .before .before .before .before .args .w) _ _ _ _ _ _ _ _ (c .before .before .before .before .before .before .before .digit .ensures) (c .before .before .before .before .before .before .digit2 .ensures) (c .before .before .before .before .before .digit3 .ensures) (c .before .before .before .before .digit4 .ensures) (c .before .before .before .digit5 .ensures) (c .before .before .digit6 .ensures) (c .before .digit7 .ensures) (c .digit8 .ensures)
+returns c =
+    let at-start = c .before .before .before .before .before .before .before .before .before in
+    let at-digit = c .before .before .before .before .before .before .before in
+    let at-digit2 = c .before .before .before .before .before .before in
+    word-put (at-start .args .out .now) (at-start .args .at) (at-start .args .w) _ _ _ _ _ _ _ _ (at-digit .digit .ensures) (at-digit2 .digit2 .ensures) (c .before .before .before .before .before .digit3 .ensures) (c .before .before .before .before .digit4 .ensures) (c .before .before .before .digit5 .ensures) (c .before .before .digit6 .ensures) (c .before .digit7 .ensures) (c .digit8 .ensures)
 
 pub put-word-spec : {M : Type 1} → statement M
 put-word-spec =

@@ -1,4 +1,4 @@
-use Rattle.history.proofs.States.{filled-same, enough-over, enough-left, filled-more}
+use Rattle.history.proofs.StateLaws.{filled-same, enough-over, enough-left, filled-more}
 use native.Mathlib.Omega.{arith}
 use borrow.Author.Needs.{needs}
 use Rattle.history.proofs.state.filled.Statement.{statement}
@@ -35,7 +35,10 @@ same-length : tie.Need-same-length
 same-length c = search needs
 
 returns-3 : tie.Need-returns-3
-returns-3 c = (record { from = omega arith; to = search needs }, filled-more (c .before .before .before .before .before .before .before .before .before .before .before .before .args .s) (c .before .before .before .before .before .before .before .before .before .before .before .before .args .bytes .now) _ _ _ (c .before .before .before .before .before .before .before .before .before .before .before .before .pre .0) (c .before .before .before .before .before .before .move-down .ensures) (omega arith) _ (search needs) (search needs) (search needs))
+returns-3 c =
+    let at-start = c .before .before .before .before .before .before .before .before .before .before .before .before in
+    let at-move-down = c .before .before .before .before .before .before in
+    (record { from = omega arith; to = search needs }, filled-more (at-start .args .s) (at-start .args .bytes .now) _ _ _ (at-start .pre .0) (at-move-down .move-down .ensures) (omega arith) _ (search needs) (search needs) (search needs))
 
 pub filled-spec : {M : Type 1} → statement M
 filled-spec =

@@ -2,7 +2,7 @@ use mathlib.Core.Path.{_≡_, refl}
 use Prim.Native.Nat.{_-_, _≤_}
 use lib.ListN.{length, drop, length-set}
 use lib.Seq.{paste, paste-zero}
-use Rattle.history.proofs.Moves.{move-again, move-done}
+use Rattle.history.proofs.InputMoves.{move-again, move-done}
 use borrow.Author.Needs.{needs}
 use native.Mathlib.Omega.{arith}
 use Rattle.history.proofs.state.move_down.Statement.{statement}

@@ -2,15 +2,15 @@ use mathlib.Core.Path.{_≡_, refl}
 use mathlib.Core.List.{_++_}
 use Prim.Native.Nat.{_-_, _≤_}
 use lib.ListN.{length, drop, length-set}
-use Rattle.history.specs.Input.{wordsOf}
-use Rattle.history.proofs.Words.{load-start, load-again, load-done}
+use Rattle.history.specs.Input.{wordsFrom}
+use Rattle.history.proofs.InputWords.{load-start, load-again, load-done}
 use borrow.Author.Needs.{needs}
 use native.Mathlib.Omega.{arith}
 use Rattle.history.proofs.word.load.Statement.{statement}
 use Rattle.history.proofs.word.load.Tie as tie
 
 abbrev Inv-loop : tie.InvT-loop
-Inv-loop b words₀ n i₀ words i = (i ≤ n) × (length words ≡ length words₀) × (words ≡ wordsOf i b ++ drop i words₀)
+Inv-loop b words₀ n i₀ words i = (i ≤ n) × (length words ≡ length words₀) × (words ≡ wordsFrom i b ++ drop i words₀)
 
 abbrev μ-loop : tie.MeasureT-loop
 μ-loop b words₀ n i₀ words i = n - i

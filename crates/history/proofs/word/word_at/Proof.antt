@@ -1,4 +1,4 @@
-use Rattle.history.proofs.Words.{word-is}
+use Rattle.history.proofs.InputWords.{word-is}
 use borrow.Author.Needs.{needs}
 use Rattle.history.proofs.word.word_at.Statement.{statement}
 use Rattle.history.proofs.word.word_at.Tie as tie
@@ -56,7 +56,9 @@ add-result-3 c = search needs
 
 returns : tie.Need-returns
 returns c =
-    word-is (c .before .before .before .before .before .before .before .before .before .args .b .now) (c .before .before .before .before .before .before .before .before .before .args .at) _ _ _ _ (c .before .before .before .before .before .before .wide .ensures .0) (c .before .before .before .before .wide2 .ensures .0) (c .before .before .wide3 .ensures .0) (c .wide4 .ensures .0)
+    let at-start = c .before .before .before .before .before .before .before .before .before in
+    let at-wide = c .before .before .before .before .before .before in
+    word-is (at-start .args .b .now) (at-start .args .at) _ _ _ _ (at-wide .wide .ensures .0) (c .before .before .before .before .wide2 .ensures .0) (c .before .before .wide3 .ensures .0) (c .wide4 .ensures .0)
 
 pub word-at-spec : {M : Type 1} → statement M
 word-at-spec =

@@ -8,12 +8,12 @@ use lib.Dec.{ltb}
 use lib.ListN.{length, take, drop, length-take, length-drop}
 use lib.Seq.{getD-take, take-add, drop-at, length-take-le}
 use borrow.Author.Tests.{ltb-false, le-ltb}
-use Rattle.history.specs.Input.{wordOf, wordsOf, wordsIn, requestIn}
+use Rattle.request.specs.Table.{longestCount}
+use Rattle.history.specs.Input.{wordFrom, wordsFrom, wordsIn, requestIn}
 use Rattle.history.specs.State.{longestRequest}
-use Rattle.history.proofs.States.{request-bytes}
 
-wordOf-take : (k : ℕ) (b : List ℕ) → 4 ≤ k → wordOf (take k b) ≡ wordOf b
-unfolding wordOf
+wordOf-take : (k : ℕ) (b : List ℕ) → 4 ≤ k → wordFrom (take k b) ≡ wordFrom b
+unfolding wordFrom
 wordOf-take k b h =
     rw (getD-take k b 0 0 (omega arith), getD-take k b 1 0 (omega arith), getD-take k b 2 0 (omega arith), getD-take k b 3 0 (omega arith)) refl
 
@@ -24,12 +24,12 @@ drop-take k b h l =
     ∙ ap (λ (r : List ℕ). drop 4 r) (take-add 4 (k - 4) b)
     ∙ drop-at (take 4 b) (take (k - 4) (drop 4 b)) 4 (length-take-le 4 b l)
 
-wordsOf-take : (n k : ℕ) (b : List ℕ) → 4 * n ≤ k → 4 * n ≤ length b → wordsOf n (take k b) ≡ wordsOf n b
-unfolding wordsOf
+wordsOf-take : (n k : ℕ) (b : List ℕ) → 4 * n ≤ k → 4 * n ≤ length b → wordsFrom n (take k b) ≡ wordsFrom n b
+unfolding wordsFrom
 wordsOf-take zero k b h l = refl
 wordsOf-take (suc n) k b h l =
     rw (wordOf-take k b (omega arith), drop-take k b (omega arith) (omega arith))
-    (ap (λ (ws : List ℕ). wordOf b ∷ ws) (wordsOf-take n (k - 4) (drop 4 b) (omega arith) (omega (arith, length-drop 4 b))))
+    (ap (λ (ws : List ℕ). wordFrom b ∷ ws) (wordsOf-take n (k - 4) (drop 4 b) (omega arith) (omega (arith, length-drop 4 b))))
 
 wordsIn-take : (k : ℕ) (b : List ℕ) → 4 ≤ k → wordsIn (take k b) ≡ wordsIn b
 unfolding wordsIn
@@ -39,22 +39,22 @@ pub requestIn-take : (k : ℕ) (b : List ℕ) → longestRequest ≤ length (tak
 unfolding requestIn
 requestIn-take k b h =
     rw (le-ltb (length (take k b)) 4 (omega (arith, long)), le-ltb (length b) 4 (omega (arith, all)), wordsIn-take k b (omega (arith, some)))
-    (go (ltb 454 (wordsIn b)) refl)
+    (go (ltb (suc longestCount) (wordsIn b)) refl)
   where
-    long : 1816 ≤ length (take k b)
-    long = omega (arith, h, request-bytes)
+    long : longestRequest ≤ length (take k b)
+    long = omega (arith, h)
 
-    some : 1816 ≤ k
-    some = omega (arith, h, request-bytes, length-take k b)
+    some : longestRequest ≤ k
+    some = omega (arith, h, length-take k b)
 
-    all : 1816 ≤ length b
-    all = omega (arith, h, request-bytes, length-take k b)
+    all : longestRequest ≤ length b
+    all = omega (arith, h, length-take k b)
 
-    go : (t : Bool) → ltb 454 (wordsIn b) ≡ t
-        → cond {A = List ℕ} t [] (cond (ltb (length (take k b)) (4 * wordsIn b)) [] (wordsOf (wordsIn b) (take k b)))
-        ≡ cond t [] (cond (ltb (length b) (4 * wordsIn b)) [] (wordsOf (wordsIn b) b))
+    go : (t : Bool) → ltb (suc longestCount) (wordsIn b) ≡ t
+        → cond {A = List ℕ} t [] (cond (ltb (length (take k b)) (4 * wordsIn b)) [] (wordsFrom (wordsIn b) (take k b)))
+        ≡ cond t [] (cond (ltb (length b) (4 * wordsIn b)) [] (wordsFrom (wordsIn b) b))
     go true e = refl
     go false e =
-        let few : wordsIn b ≤ 454 = ltb-false 454 (wordsIn b) e in
+        let few : wordsIn b ≤ suc longestCount = ltb-false (suc longestCount) (wordsIn b) e in
         rw (le-ltb (length (take k b)) (4 * wordsIn b) (omega (arith, long, few)), le-ltb (length b) (4 * wordsIn b) (omega (arith, all, few)))
         (wordsOf-take (wordsIn b) k b (omega (arith, some, few)) (omega (arith, all, few)))

@@ -2,7 +2,7 @@
 use mathlib.Core.Path.{_≡_, refl, sym, ap, _∙_}
 use mathlib.Core.Bool.{Bool, true, false, cond}
 use mathlib.Core.List.{List, [], _∷_, _++_}
-use Prim.Native.Nat.{ℕ, zero, suc, _+_, _-_, _*_, _/_, _%_, _^_, _<_, _≤_}
+use Prim.Native.Nat.{ℕ, zero, suc, _+_, _-_, _*_, _/_, _%_, _<_, _≤_}
 use native.Mathlib.Nat.{add-zero}
 use native.Mathlib.Numerals.{add-one}
 use native.Mathlib.Omega.{arith}
@@ -10,9 +10,11 @@ use lib.Dec.{ltb, eqb·suc-zero, lit≤}
 use lib.ListN.{length, getD, set, take, drop, length-append, length-take, length-set, drop-of-length-le}
 use lib.Seq.{sets, length-sets, drop-cons, take-all}
 use borrow.Author.Tests.{eq-eqb, ne-eqb, lt-ltb, le-ltb}
+use Rattle.types.specs.Response.{countIn, answerWidth}
 use Rattle.model.specs.Model.{refused, answered}
-use Rattle.mvhashmap.specs.Run.{answerWords}
-use Rattle.history.specs.Line.{digitOf, hexAt, hexWord, spaced, hexWords, decimal, lineOf, shown}
+use Rattle.mvhashmap.specs.Run.{answerWords, shown}
+use Rattle.history.specs.Line.{digitOf, hexAt, hexWord, spaced, hexWords, decimal, lineOf}
+use Rattle.history.specs.State.{longestLine}
 
 pub sets-append : (l : List ℕ) (i : ℕ) (xs ys : List ℕ) → sets l i (xs ++ ys) ≡ sets (sets l i xs) (i + length xs) ys
 sets-append l i [] ys = ap (λ (k : ℕ). sets l k ys) (sym (add-zero i))
@@ -190,10 +192,10 @@ refusal-length o q at n e =
 
 -- ---- the line of what a call shows
 
-pub shown-short : (result : ℕ) (a : List ℕ) → 451 ≤ length a → (result ≡ 0 → getD a 0 0 % 2 ^ 28 ≤ 450) → length (lineOf (shown result a)) ≤ 4059
+pub shown-short : (result : ℕ) (a : List ℕ) → answerWidth ≤ length a → (result ≡ 0 → countIn (getD a 0 0) < answerWidth) → length (lineOf (shown result a)) ≤ longestLine
 unfolding shown answerWords
 shown-short zero (w ∷ a) l h =
-    omega (arith, h refl, length-answered w (take (w % 2 ^ 28) a), length-take (w % 2 ^ 28) a)
+    omega (arith, h refl, length-answered w (take (countIn w) a), length-take (countIn w) a)
 shown-short zero [] l h = absurd (omega arith)
 shown-short (suc n) a l h = rw (eqb·suc-zero n) (omega (arith, length-refused (suc n), length-decimal (suc n)))
 
@@ -207,7 +209,7 @@ module _ (a o : List ℕ) (at result : ℕ) where
     unfolding shown
     refused-after end e = rw (ne-eqb result 0 h) e
 
-  module _ (n : ℕ) (h : result ≡ 0) (k : n ≡ getD a 0 0 % 268435456 + 1) where
+  module _ (n : ℕ) (h : result ≡ 0) (k : n ≡ countIn (getD a 0 0) + 1) where
     counted : take n a ≡ answerWords a
     unfolding answerWords
     counted = ap (λ (m : ℕ). take m a) (k ∙ add-one _)

@@ -11,14 +11,6 @@ use borrow.Author.Tests.{le-leb, lt-leb, ltb-true, ltb-false}
 use Rattle.history.specs.State.{longestRequest, longestLine, Within, unread, Filled, flushedOf}
 use Rattle.history.specs.declared.state.State.{State}
 
-pub request-bytes : longestRequest ≡ 1816
-unfolding longestRequest
-request-bytes = refl
-
-pub line-bytes : longestLine ≡ 4059
-unfolding longestLine
-line-bytes = refl
-
 apart : (t : Bool) → t ≡ false → t ≡ true → ⊥
 apart t f g = let z : _≡_ {A = ℕ} (cond false 1 0) (cond true 1 0) = ap (λ (x : Bool). cond {A = ℕ} x 1 0) (sym f ∙ g) in omega (arith, z)
 
@@ -42,9 +34,8 @@ or-right false b e = e
 pub enough-over : (s : State) → s .over ≡ true → s .over || leb longestRequest (s .end - s .at) ≡ true
 enough-over s e = rw e refl
 
-pub enough-left : (s : State) → 1816 ≤ s .end - s .at → s .over || leb longestRequest (s .end - s .at) ≡ true
-unfolding longestRequest
-enough-left s h = or-right (s .over) _ (le-leb 1816 (s .end - s .at) h)
+pub enough-left : (s : State) → longestRequest ≤ s .end - s .at → s .over || leb longestRequest (s .end - s .at) ≡ true
+enough-left s h = or-right (s .over) _ (le-leb longestRequest (s .end - s .at) h)
 
 -- The bytes that are left are moved down, and m follow them.
 module _ (s : State) (b moved m : List ℕ) (end : ℕ) (within : Within (length b) s)
@@ -80,10 +71,10 @@ module _ (s : State) (b moved m : List ℕ) (end : ℕ) (within : Within (length
 
 -- ---- room for a line
 
-pub flushed-stays : (n put : ℕ) → 4059 ≤ n - put → put ≡ flushedOf n put
-unfolding flushedOf longestLine
-flushed-stays n put h = rw (le-leb 4059 (n - put) h) refl
+pub flushed-stays : (n put : ℕ) → longestLine ≤ n - put → put ≡ flushedOf n put
+unfolding flushedOf
+flushed-stays n put h = rw (le-leb longestLine (n - put) h) refl
 
-pub flushed-empty : (n put : ℕ) → n - put < 4059 → 0 ≡ flushedOf n put
-unfolding flushedOf longestLine
-flushed-empty n put h = rw (lt-leb 4059 (n - put) h) refl
+pub flushed-empty : (n put : ℕ) → n - put < longestLine → 0 ≡ flushedOf n put
+unfolding flushedOf
+flushed-empty n put h = rw (lt-leb longestLine (n - put) h) refl
