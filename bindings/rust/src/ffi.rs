@@ -82,7 +82,7 @@ pub(crate) fn call(
 }
 
 /// A data store and a group store that are valid: they start cleared, nothing but a call writes
-/// them, and a call keeps them valid (crates/mvhashmap/proofs/Valid.antt). The fields are private
+/// them, and a call keeps them valid (crates/mvhashmap/proofs/StoresSound.antt). The fields are private
 /// to this file, so that no safe code can put other words there.
 pub(crate) struct Stores {
     data: Box<[u32]>,
