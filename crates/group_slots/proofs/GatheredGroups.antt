@@ -8,6 +8,7 @@ use native.Mathlib.Omega.{arith}
 use lib.Dec.{eqb, eqb·suc-zero}
 use lib.ListN.{length, getD, replicate}
 use lib.Seq.{take-at}
+use Rattle.types.proofs.FlagLaws.{flag-back}
 use Rattle.lists.specs.Lists.{every}
 use Rattle.lists.proofs.Bools.{and-left, and-right}
 use Rattle.types.specs.Value.{valueAt, valueWidth}
@@ -19,15 +20,8 @@ use Rattle.model.specs.Model.{updatesHeld}
 use Rattle.model.specs.Fine.{fineValue, fineMember, fineUpdate, fineCommitted}
 use Rattle.model.proofs.FineParts.{value-length}
 use Rattle.model.proofs.FineUpdates.{member-value}
-use Rattle.types.specs.Flag.{flagOf}
 use Rattle.group_slots.specs.Layout.{Groups, Gathered, partSlot, memberSlot, updateSlots, updatesSlots, committedSlot, groupSlots, memberOf, updateOf, committedOf, withMember, withUpdate, withCommitted, withSlot, gathered, fineGroups}
 use Rattle.group_slots.proofs.SlotParts.{update-values, committed-value, fine-every, fine-committed-every}
-
--- A slot read back.
-pub flag-back : (b : Bool) → eqb (flagOf b) 1 ≡ b
-unfolding flagOf
-flag-back true = refl
-flag-back false = refl
 
 pub part-value : (r : Row Update) (part : ℕ) (v : List ℕ) → fineValue v ≡ true → valueAt 7 (partSlot r part v) ≡ v
 unfolding partSlot padded valueAt

@@ -1,14 +1,15 @@
 -- A slot that passes the scan's tests, word by word, is the slot of the update, the member or the committed value that is read from it.
 -- Assumes nothing.
-use mathlib.Core.Path.{_≡_, refl, sym, _∙_, ap}
+use mathlib.Core.Path.{_≡_, refl, ap}
 use mathlib.Core.Bool.{Bool, true, false, cond, not, _&&_}
-use mathlib.Core.List.{List, [], _∷_, _++_}
-use Prim.Native.Nat.{ℕ, zero, suc, _+_, _-_, _≤_, _<_, _^_}
+use mathlib.Core.List.{List, [], _∷_}
+use Prim.Native.Nat.{ℕ, zero, suc, _-_, _≤_, _<_, _^_}
 use native.Mathlib.Omega.{arith}
 use lib.Dec.{leb, eqb}
-use lib.ListN.{length, getD, take, drop, replicate, take-append-drop, length-drop}
+use lib.ListN.{length, getD, take, drop}
 use lib.Seq.{length-take-le}
 use borrow.Author.Tests.{leb-true, eqb-true, le-leb, eq-eqb, ne-eqb}
+use Rattle.types.proofs.FlagLaws.{flag-word, not-flag}
 use Rattle.lists.specs.Lists.{every}
 use Rattle.lists.proofs.Bools.{and-both, and-five, and-four, and-left, and-right, and-three}
 use Rattle.number.specs.Words.{AreWords}
@@ -16,10 +17,9 @@ use Rattle.number.proofs.Digits.{words-take}
 use Rattle.types.specs.Response.{mostTags}
 use Rattle.types.specs.Value.{valueAt, valueOk, isExchanged, isDeletion}
 use Rattle.store.specs.Slots.{Slot, slotWidth, padded, allZero}
-use Rattle.store.proofs.ZeroWords.{allZero-told}
+use Rattle.store.proofs.ZeroWords.{zeros-after}
 use Rattle.model.specs.Fine.{isWord, fineValue, fineMember, fineCommitted}
 use Rattle.model.proofs.FineParts.{word-tell, words-every}
-use Rattle.types.specs.Flag.{flagOf}
 use Rattle.group_slots.specs.Layout.{partSlot, memberSlot, committedSlot, memberOf, updateOf, committedOf}
 use Rattle.group_slots.specs.Tests.{baseTest, headTest, memberTest, partTest, committedTest, slotTest}
 
@@ -39,21 +39,6 @@ pub data Part (u : Slot) : Type 0 where
 -- A slot's seven head words, and the rest.
 abbrev slot : ℕ → ℕ → ℕ → ℕ → ℕ → ℕ → ℕ → List ℕ → Slot
 slot a b c d e f g ws = a ∷ b ∷ c ∷ d ∷ e ∷ f ∷ g ∷ ws
-
-flag-word : (f : ℕ) → f ≤ 1 → flagOf (eqb f 1) ≡ f
-unfolding flagOf
-flag-word zero h = refl
-flag-word (suc zero) h = refl
-flag-word (suc (suc f)) h = absurd (let g : 2 ≤ 1 = omega arith in omega arith)
-
--- zeros after a part are all that follows it
-zeros-after : (n m : ℕ) (ws : List ℕ) → length ws ≡ n + m → allZero (drop n ws) ≡ true → take n ws ++ replicate m 0 ≡ ws
-zeros-after n m ws h z =
-    let l : length (drop n ws) ≡ m = omega (arith, length-drop n ws) in
-    ap (λ (x : List ℕ). take n ws ++ x) (ap (λ (k : ℕ). replicate k 0) (sym l) ∙ sym (allZero-told (drop n ws) z)) ∙ take-append-drop n ws
-
-not-flag : (f : ℕ) → eqb f 0 ≡ true → not (eqb f 1) ≡ true
-not-flag f e = rw (ne-eqb f 1 (omega (arith, eqb-true f 0 e)))
 
 base-rule : (c f g : ℕ) → cond (eqb c 0) (eqb g 0 && eqb f 0) true ≡ true → cond (eqb c 0) (eqb g 0 && not (eqb f 1)) true ≡ true
 base-rule c f g h = go (eqb c 0) refl

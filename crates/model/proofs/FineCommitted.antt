@@ -11,12 +11,13 @@ use native.Mathlib.Omega.{arith}
 use lib.Dec.{leb, eqb}
 use lib.ListN.{length, length-append}
 use lib.Pow.{pow-mono}
-use borrow.Author.Tests.{leb-true, le-leb, ne-eqb, eqb-true}
+use borrow.Author.Tests.{leb-true, le-leb, eqb-true}
+use Rattle.model.proofs.GroupLaws.{creation-not-deletion}
 use Rattle.lists.specs.Lists.{every}
 use Rattle.lists.proofs.Bools.{and-both, and-four, and-left, and-right}
 use Rattle.lists.proofs.Lists.{every-imp, every-join, every-keep, every-kept}
 use Rattle.types.specs.Response.{mostTags}
-use Rattle.types.specs.Value.{valueWidth, writeOpKind, isCreation, isDeletion}
+use Rattle.types.specs.Value.{valueWidth, isCreation, isDeletion}
 use Rattle.request.specs.Set.{Member}
 use Rattle.model.specs.Rows.{Row, rowAt, isAbove, rising, find, put, erase, ofKey}
 use Rattle.model.specs.Group.{Committed, isSome, commitOver, commitNew, commitOne, commitRest, commit, setOf, valuesOf}
@@ -54,11 +55,6 @@ erase-committed key tag group h =
 unfoldable pub fineOption : Option Committed → Bool
 fineOption none = true
 fineOption (some g) = fineGroup g
-
--- a creation is no deletion
-pub creation-not-deletion : (v : List ℕ) → isCreation v ≡ true → isDeletion v ≡ false
-unfolding isCreation isDeletion
-creation-not-deletion v e = ne-eqb (writeOpKind v) 2 (omega (arith, eqb-true (writeOpKind v) 0 e))
 
 pub commitOne-fine : (key : ℕ) (m : Member) (group : Committed) → fineGroup group ≡ true → isWord key ≡ true → leb (m .tag) 63 ≡ true → fineValue (m .value) ≡ true → fineOption (commitOne key m group) ≡ true
 unfolding commitOne commitOver commitNew fineOption

@@ -119,7 +119,7 @@ committedBy (some v) before = cond (isDeletion v) none (some v)
 unfoldable pub allowed : ℕ → Committed → Member → Bool
 allowed key group m = cond (isSome (find key (m .tag) group)) (not (isCreation (m .value))) (isCreation (m .value))
 
-creation-not-deletion : (v : List ℕ) → isCreation v ≡ true → isDeletion v ≡ false
+pub creation-not-deletion : (v : List ℕ) → isCreation v ≡ true → isDeletion v ≡ false
 unfolding isCreation isDeletion
 creation-not-deletion v e = rw (eqb-true (writeOpKind v) 0 e)
 

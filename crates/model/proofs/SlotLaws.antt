@@ -58,7 +58,7 @@ fits-step s m request h = go (ruling m request)
     go (refuse n) = h
     go (accept answer a) = kept answer a (fits s a) refl
 
-fits-empty : (s : Fixed) → fits s empty ≡ true
+pub fits-empty : (s : Fixed) → fits s empty ≡ true
 unfolding empty dataHeld groupHeld updatesHeld
 fits-empty s = fits-tell s empty zero-le zero-le
 

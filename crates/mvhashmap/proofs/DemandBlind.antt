@@ -9,6 +9,7 @@ use lib.Dec.{leb}
 use lib.ListN.{length, drop}
 use lib.Seq.{take-at}
 use borrow.Author.Tests.{leb-true, eqb-true}
+use Rattle.model.proofs.SlotLaws.{fits-empty}
 use Rattle.lists.specs.Lists.{every}
 use Rattle.lists.proofs.Bools.{and-left, and-right}
 use Rattle.types.specs.Response.{countIn, answerWidth}
@@ -26,7 +27,7 @@ use Rattle.mvhashmap.specs.Call.{Stores, Lent, Called, fixedOf, holding,
 use Rattle.mvhashmap.specs.Run.{Call, cleared, lentTo, answerWords, shown, seenOf, turnsOn, areWords, isLong, longEnough, callBy, modelLeft}
 use Rattle.mvhashmap.specs.Demands.{Blind}
 use Rattle.mvhashmap.proofs.StoresSound.{long-slice, callOn-holding, left-callBy, modelLeft-long, modelLeft-fine, modelLeft-fits}
-use Rattle.mvhashmap.proofs.DemandRight.{holding-empty, fits-empty, first-words, later-words}
+use Rattle.mvhashmap.proofs.DemandRight.{holding-empty, first-words, later-words}
 
 -- The answer is taken back from the slice by the count in its head.
 pub answerWords-answerIn : (answer out : List ℕ) → headCounts answer ≡ true → fineAnswer answer ≡ true → answerWords (answerIn answer out) ≡ answer

@@ -14,13 +14,13 @@ use Rattle.types.proofs.RefusalLaws.{refusal-nonzero}
 use Rattle.model.specs.Data.{Ruling, refuse, accept}
 use Rattle.model.specs.Model.{Model, empty, fits, unlessRefused, step, leftBy, after}
 use Rattle.model.specs.Fine.{isWord, fine}
-use Rattle.model.proofs.SlotLaws.{fits-after}
+use Rattle.model.proofs.SlotLaws.{fits-after, fits-empty}
 use Rattle.model.proofs.FineModel.{empty-fine}
 use Rattle.model.proofs.StepFacts.{proper, step-proper, after-empty-fine}
 use Rattle.mvhashmap.specs.Call.{Stores, Lent, Called, modelIn, fixedOf, holding, sliceRefusal, refusedBy, calledBy}
 use Rattle.mvhashmap.specs.Run.{Call, cleared, lentTo, callOn, areWords, isLong, callBy, modelLeft}
 use Rattle.mvhashmap.proofs.StoresSound.{modelIn-holding, callOn-holding, left-callBy, modelLeft-long, modelLeft-short, modelLeft-fine, modelLeft-fits}
-use Rattle.mvhashmap.proofs.DemandRight.{holding-empty, fits-empty, first-words, later-words}
+use Rattle.mvhashmap.proofs.DemandRight.{holding-empty, first-words, later-words}
 
 unfoldable pub storesAfter : Stores → List Call → Stores
 storesAfter s [] = s

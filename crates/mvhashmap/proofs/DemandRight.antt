@@ -7,9 +7,9 @@ use Prim.Native.Nat.{ℕ}
 use lib.ListN.{replicate}
 use Rattle.lists.specs.Lists.{every}
 use Rattle.lists.proofs.Bools.{and-left, and-right}
-use Rattle.model.specs.Model.{Model, empty, Fixed, fits, after}
+use Rattle.model.specs.Model.{Model, empty, fits}
 use Rattle.model.specs.Fine.{isWord, fine}
-use Rattle.model.proofs.SlotLaws.{fits-after}
+use Rattle.model.proofs.SlotLaws.{fits-empty}
 use Rattle.model.proofs.FineModel.{empty-fine}
 use Rattle.versioned_data.specs.Layout as Data
 use Rattle.versioned_data.proofs.EntriesHeld.{holding-entries}
@@ -26,10 +26,6 @@ data-cleared n = rw (Entries.entries-cleared n) at (holding-entries (replicate n
 pub holding-empty : (n k : ℕ) → holding (cleared n k) empty ≡ cleared n k
 unfolding holding empty groupsOf cleared noGroups
 holding-empty n k = λ i. record { data-words = data-cleared n i; group-words = holding-cleared k i }
-
-pub fits-empty : (s : Fixed) → fits s empty ≡ true
-unfolding after
-fits-empty s = fits-after s []
 
 -- The words of the first request of a list, and of the others.
 pub first-words : (c : Call) (cs : List Call) → areWords (c ∷ cs) ≡ true → every isWord (c .request) ≡ true

@@ -1,12 +1,13 @@
 -- Laws of `allZero` and `sameWords`.
 -- Assumes nothing.
-use mathlib.Core.Path.{_≡_, refl, sym, ap}
+use mathlib.Core.Path.{_≡_, refl, sym, ap, _∙_}
 use mathlib.Core.Bool.{true, _&&_}
 use mathlib.Core.List.{List, [], _∷_, _++_}
-use Prim.Native.Nat.{ℕ, zero, suc}
+use Prim.Native.Nat.{ℕ, zero, suc, _+_}
 use lib.Dec.{eqb}
-use lib.ListN.{length, replicate}
+use lib.ListN.{length, replicate, take, drop, take-append-drop, length-drop}
 use borrow.Author.Tests.{eqb-true, eq-eqb}
+use native.Mathlib.Omega.{arith}
 use Rattle.lists.proofs.Bools.{and-left, and-right, and-assoc, true-not-false}
 use Rattle.store.specs.Slots.{allZero, sameWords}
 
@@ -26,6 +27,12 @@ pub allZero-append : (xs ys : List ℕ) → allZero (xs ++ ys) ≡ (allZero xs &
 unfolding allZero
 allZero-append [] ys = refl
 allZero-append (x ∷ xs) ys = rw (allZero-append xs ys) (sym (and-assoc (eqb x 0) (allZero xs) (allZero ys)))
+
+-- zeros after a part are all that follows it
+pub zeros-after : (n m : ℕ) (ws : List ℕ) → length ws ≡ n + m → allZero (drop n ws) ≡ true → take n ws ++ replicate m 0 ≡ ws
+zeros-after n m ws h z =
+    let l : length (drop n ws) ≡ m = omega (arith, length-drop n ws) in
+    ap (λ (x : List ℕ). take n ws ++ x) (ap (λ (k : ℕ). replicate k 0) (sym l) ∙ sym (allZero-told (drop n ws) z)) ∙ take-append-drop n ws
 
 pub same-words : (xs ys : List ℕ) → sameWords xs ys ≡ true → xs ≡ ys
 unfolding sameWords

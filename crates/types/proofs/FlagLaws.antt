@@ -5,6 +5,7 @@ use mathlib.Core.Bool.{Bool, true, false, not}
 use Prim.Native.Nat.{ℕ, zero, suc, _≤_}
 use native.Mathlib.Omega.{arith}
 use lib.Dec.{leb, eqb}
+use borrow.Author.Tests.{eqb-true, ne-eqb}
 use Rattle.types.specs.Flag.{flagOf}
 
 -- a flag is read back from its word
@@ -28,3 +29,7 @@ pub flag-done : (b : Bool) → not b ≡ true → eqb (flagOf b) 0 ≡ true
 unfolding flagOf
 flag-done true h = absurd (let y : _≡_ {A = ℕ} 0 1 = cc in omega arith)
 flag-done false h = refl
+
+-- a word that is not the flag of an estimate
+pub not-flag : (f : ℕ) → eqb f 0 ≡ true → not (eqb f 1) ≡ true
+not-flag f e = rw (ne-eqb f 1 (omega (arith, eqb-true f 0 e)))

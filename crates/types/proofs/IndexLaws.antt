@@ -10,6 +10,9 @@ use Rattle.types.specs.declared.index.IndexOrStorage.the-variants.{Index
 pub shifted-word : (x : ShiftedTxnIndex) (index : ℕ) → x ≡ shiftedOf (shift index) → wordOf x ≡ suc index
 shifted-word x index e = ap wordOf e ∙ add-one index
 
+pub base-word : (x : ShiftedTxnIndex) → x ≡ shiftedOf 0 → wordOf x ≡ 0
+base-word x e = ap wordOf e
+
 pub index-base : indexOf 0 ≡ StorageVersion
 unfolding indexOf
 index-base = refl

@@ -8,9 +8,7 @@ use Prim.Native.Nat.{ℕ, _+_, _*_, _≤_, _<_}
 use native.Mathlib.Omega.{arith}
 use lib.ListN.{length, set}
 use Rattle.delta.specs.Delta.{Delta}
-use Rattle.types.specs.Index.{shiftedOf, wordOf}
 use Rattle.types.specs.Refusal.{nothingThere, incarnationNotHigher, baseDiffers}
-use Rattle.types.specs.declared.index.ShiftedTxnIndex.{ShiftedTxnIndex}
 use Rattle.store.specs.Slots.{Slot, slotWidth, slotsIn, held, closed}
 use Rattle.store.specs.Found.{isAmong}
 use Rattle.store.proofs.StoreEncoding.{held-fits}
@@ -29,9 +27,6 @@ use Rattle.versioned_data.proofs.EntryFinds.{among-valid}
 use Rattle.versioned_data.proofs.SlotPuts.{there-words}
 use Rattle.versioned_data.proofs.EntryRulings.{edited-refused, edited-left, edited-put, edited-marked, edited-removed, absent-has, there-lt}
 use Rattle.versioned_data.proofs.EntryWords.{may-valid, base-valid}
-
-pub base-word : (x : ShiftedTxnIndex) → x ≡ shiftedOf 0 → wordOf x ≡ 0
-base-word x e = ap wordOf e
 
 write-may : (incarnation : ℕ) (v : List ℕ) (o : Option Entry) (b : Bool) → b ≡ mayWrite incarnation o → not b ≡ false →
     writeValue incarnation v o ≡ accept doneAnswer (Rows.set (done (write incarnation v)))

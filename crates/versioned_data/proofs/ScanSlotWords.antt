@@ -7,8 +7,8 @@ use mathlib.Core.Option.{none, some}
 use Prim.Native.Nat.{ℕ, zero, suc, _+_, _-_, _*_, _≤_, _<_, _^_}
 use native.Mathlib.Omega.{arith}
 use lib.Dec.{leb, ltb, eqb}
-use lib.ListN.{length, take, drop, replicate, take-append-drop, length-drop, length-append}
-use borrow.Author.Tests.{ltb-true, leb-true, eqb-true, lt-ltb, lt-leb, eq-eqb, ne-eqb}
+use lib.ListN.{length, take, drop, replicate, length-drop, length-append}
+use borrow.Author.Tests.{ltb-true, leb-true, eqb-true, lt-ltb, lt-leb, eq-eqb}
 use lib.Seq.{length-take-le, take-add, take-at, drop-at}
 use Rattle.lists.specs.Lists.{every}
 use Rattle.lists.proofs.Bools.{and-both, and-left, and-right, same-test}
@@ -18,11 +18,11 @@ use Rattle.number.proofs.Digits.{length-digits, words-take, words-drop, digits-
 use Rattle.delta.specs.Delta.{deltaWidth, Delta, valid, deltaAt, deltaOk, deltaWords}
 use Rattle.delta.proofs.DeltaFormat.{length-deltaWords, deltaWords-deltaAt, deltaAt-small, ok-valid, deltaOk-deltaWords, valid-small}
 use Rattle.types.specs.Flag.{flagOf}
-use Rattle.types.proofs.FlagLaws.{flag-word, flag-small, flag-done}
+use Rattle.types.proofs.FlagLaws.{flag-word, flag-small, flag-done, not-flag}
 use Rattle.types.specs.Value.{valueWidth, valueAt, valueOk, isExchanged}
 use Rattle.store.specs.Slots.{Slot, slotWidth, slotsIn, slotAt, allZero, padded, sameWords}
 use Rattle.store.proofs.StoreWords.{slot-inside, length-slotAt}
-use Rattle.store.proofs.ZeroWords.{allZero-replicate, allZero-told, same-words, words-same}
+use Rattle.store.proofs.ZeroWords.{allZero-replicate, same-words, words-same, zeros-after}
 use Rattle.model.specs.Rows.{Row}
 use Rattle.model.specs.Data.{Cell, write, delta, Entry}
 use Rattle.model.specs.Fine.{isWord, isNumber, fineValue, fineDelta, fineShortcut, fineCell, fineEntry}
@@ -43,12 +43,6 @@ slot a b c d e f rest = a ∷ b ∷ c ∷ d ∷ e ∷ f ∷ rest
 
 leb-three : (e : ℕ) → leb (suc (suc (suc e))) 2 ≡ false
 leb-three e = lt-leb (suc (suc (suc e))) 2 (omega arith)
-
--- zeros after a part are all that follows it
-zeros-after : (n m : ℕ) (ws : List ℕ) → length ws ≡ n + m → allZero (drop n ws) ≡ true → take n ws ++ replicate m 0 ≡ ws
-zeros-after n m ws h z =
-    let l : length (drop n ws) ≡ m = omega (arith, length-drop n ws) in
-    ap (λ (x : List ℕ). take n ws ++ x) (ap (λ (k : ℕ). replicate k 0) (sym l) ∙ sym (allZero-told (drop n ws) z)) ∙ take-append-drop n ws
 
 length-part : (n : ℕ) (ws : List ℕ) (m : ℕ) → length ws ≡ n + m → length (take n ws) ≡ n
 length-part n ws m h = length-take-le n ws (omega arith)
@@ -85,9 +79,6 @@ module _ (b c f : ℕ) (small : f ≤ 1) where
         rw (flag-word f small, body-again, length-part (deltaWidth + 4) ws 5 l) (ap (λ (x : List ℕ). slot 1 b c 0 2 f x) (zeros-after (deltaWidth + 4) 5 ws l z))
 
 -- ---- and its entry is fine
-
-not-flag : (f : ℕ) → eqb f 0 ≡ true → not (eqb f 1) ≡ true
-not-flag f e = rw (ne-eqb f 1 (omega (arith, eqb-true f 0 e)))
 
 base-rule : (c i f : ℕ) (x : Bool) → cond (eqb c 0) (eqb i 0 && eqb f 0) x ≡ true → cond (eqb c 0) (eqb i 0 && not (eqb f 1)) x ≡ true
 base-rule c i f x h = go (eqb c 0) refl

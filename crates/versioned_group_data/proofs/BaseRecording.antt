@@ -10,8 +10,6 @@ use lib.ListN.{length}
 use Rattle.lists.proofs.Bools.{and-both}
 use Rattle.types.specs.Refusal.{baseDiffers, commitRule}
 use Rattle.types.specs.Units.{lackOf}
-use Rattle.types.specs.Index.{shiftedOf, wordOf}
-use Rattle.types.specs.declared.index.ShiftedTxnIndex.{ShiftedTxnIndex}
 use Rattle.request.specs.Set.{Member, tagsOf}
 use Rattle.request.specs.declared.set.Set.{Set}
 use Rattle.store.specs.Slots.{slotsIn}
@@ -42,9 +40,6 @@ accepted-done s ruling answer g e h n after u =
     let result : resultOf s ruling ≡ 0 = rw (e, lackIn-few s g h) in
     let words : wordsAfter s ruling ≡ holding s g = rw (e, fits-few s g h) in
     (u .result ∙ result, u .words ∙ words)
-
-pub base-word : (x : ShiftedTxnIndex) → x ≡ shiftedOf 0 → wordOf x ≡ 0
-base-word x e = ap wordOf e
 
 pub base-takes : (tags : Set) (at : ℕ) (t : List ℕ) (l : ℕ) → l ≡ length (tagsOf (tags .low) (tags .high)) → 1 + l ≡ suc (length (membersAt tags at t))
 base-takes tags at t l e = omega (arith, length-membersAt tags at t, e)

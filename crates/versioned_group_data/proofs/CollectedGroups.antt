@@ -8,7 +8,7 @@ use Prim.Native.Nat.{ℕ, suc, _+_, _-_, _*_, _^_, _/_, _%_, _≤_, _<_}
 use native.Mathlib.Nat.{add-zero, sub-zero, pow-suc}
 use native.Mathlib.Omega.{arith}
 use lib.Dec.{eqb}
-use lib.ListN.{length, getD, take, drop, set, length-append, length-drop, length-map}
+use lib.ListN.{length, getD, take, drop, set, length-drop, length-map}
 use lib.Pow.{pow-mono, shr-mod}
 use lib.Seq.{take-at, drop-at, drop-drop}
 use borrow.Author.Tests.{leb-true, le-leb}
@@ -28,7 +28,7 @@ use Rattle.model.specs.Group.{Update, Committed, setOf, valuesOf, committedAnsw
 use Rattle.model.specs.Model.{updatesHeld}
 use Rattle.model.specs.Fine.{fineValue, fineMember, fineMembers, fineCommitted, risingFrom}
 use Rattle.model.proofs.FineParts.{value-length}
-use Rattle.model.proofs.FineCommitted.{length-ofKey, setOf-ofKey}
+use Rattle.model.proofs.FineCommitted.{length-ofKey, setOf-ofKey, length-valuesOf}
 use Rattle.model.proofs.FineUpdates.{member-value}
 use Rattle.model.proofs.SetLaws.{bits, tagsOf-bits}
 use Rattle.group_slots.specs.Layout.{partSlot, memberSlot, committedSlot, groupsIn, groupValid}
@@ -79,17 +79,6 @@ committed-values (r ∷ rows) f =
     rw (
       committed-slot-value r (committed-value r (and-left (fineCommitted r) (every fineCommitted rows) f)),
       committed-values rows (and-right (fineCommitted r) (every fineCommitted rows) f),
-    )
-
-length-valuesOf : (rows : Committed) → every fineCommitted rows ≡ true → length (valuesOf rows) ≡ valueWidth * length rows
-unfolding valuesOf every
-length-valuesOf [] h = refl
-length-valuesOf (r ∷ rows) h =
-    omega (
-      arith,
-      length-append (r .held) (valuesOf rows),
-      value-length (r .held) (committed-value r (and-left (fineCommitted r) (every fineCommitted rows) h)),
-      length-valuesOf rows (and-right (fineCommitted r) (every fineCommitted rows) h),
     )
 
 -- the first three words of an answer

@@ -9,6 +9,7 @@ use native.Mathlib.Omega.{arith}
 use lib.Dec.{leb, eqb}
 use lib.ListN.{length, take, drop, length-append, length-take, length-drop}
 use borrow.Author.Tests.{not-true, leb-true, eqb-true, eq-eqb}
+use Rattle.model.proofs.GroupLaws.{creation-not-deletion}
 use Rattle.lists.specs.Lists.{every, keep}
 use Rattle.lists.proofs.Bools.{and-left, and-right, and-three}
 use Rattle.types.specs.Value.{isCreation, isDeletion}
@@ -20,7 +21,7 @@ use Rattle.model.proofs.Rows.{split, rising-put, rising-erase}
 use Rattle.model.proofs.RowLookups.{find-put-same, find-put-other, find-erase-same, find-erase-other}
 use Rattle.model.proofs.RowMaps.{rising-ext}
 use Rattle.model.proofs.RowPlaces.{at-absent, at-present, rank-lt, erase-present}
-use Rattle.model.proofs.FineCommitted.{put-committed, erase-committed, creation-not-deletion}
+use Rattle.model.proofs.FineCommitted.{put-committed, erase-committed}
 use Rattle.model.proofs.FineUpdates.{member-value}
 use Rattle.versioned_group_data.specs.Commit.{passes, commitTo, creations, deletions}
 

@@ -9,6 +9,7 @@ use lib.Dec.{eqb, eqb·suc-zero}
 use lib.ListN.{length, getD, take, length-append}
 use lib.Seq.{take-at}
 use borrow.Author.Tests.{eqb-true, eq-eqb, not-true}
+use Rattle.types.proofs.FlagLaws.{flag-back}
 use Rattle.lists.specs.Lists.{every, front, keep}
 use Rattle.lists.proofs.Bools.{and-both, and-left, and-right}
 use Rattle.lists.proofs.Lists.{every-append, every-keep, every-reverse, front-append, keep-append, keep-reverse}
@@ -27,7 +28,7 @@ use Rattle.versioned_group_data.specs.Sizes.{Item, itemOf, items, fineIt
 use Rattle.versioned_group_data.specs.Down.{isUpdateOf, isTagged, itemIn, slotsDown, itemsAt}
 use Rattle.versioned_group_data.specs.Seen.{isUpdate, anyBase, meetsBase, Readable}
 use Rattle.group_slots.proofs.SlotParts.{update-values, fine-rising, fine-every, every-parts, every-updated}
-use Rattle.group_slots.proofs.GatheredGroups.{flag-back, part-value}
+use Rattle.group_slots.proofs.GatheredGroups.{part-value}
 use Rattle.group_slots.proofs.GroupSplits.{lowerSlots, upperSlots, ownSlots, groups-split, length-lowerSlots}
 use Rattle.versioned_group_data.proofs.ReadTallies.{items-fine}
 

@@ -2,7 +2,8 @@
 -- Assumes nothing.
 use mathlib.Core.Path.{refl}
 use borrow.Author.Needs.{needs}
-use Rattle.versioned_data.proofs.EntryOperations.{base-word, found-among, base-kept, base-refused, base-done}
+use Rattle.types.proofs.IndexLaws.{base-word}
+use Rattle.versioned_data.proofs.EntryOperations.{found-among, base-kept, base-refused, base-done}
 use Rattle.versioned_data.proofs.EntriesHeld.{packed-valid}
 use Rattle.versioned_data.proofs.edit.set_base_value.Statement.{statement}
 use Rattle.versioned_data.proofs.edit.set_base_value.Tie as tie

@@ -2,9 +2,10 @@
 -- Assumes nothing.
 use borrow.Author.Needs.{needs}
 use native.Mathlib.Omega.{arith}
+use Rattle.types.proofs.IndexLaws.{base-word}
 use Rattle.request.proofs.SetTags.{tags-length-le}
 use Rattle.versioned_group_data.proofs.CommitSteps.{key-word}
-use Rattle.versioned_group_data.proofs.BaseRecording.{base-word, base-takes, base-agrees, base-differs, base-refused, base-valid, base-recorded}
+use Rattle.versioned_group_data.proofs.BaseRecording.{base-takes, base-agrees, base-differs, base-refused, base-valid, base-recorded}
 use Rattle.versioned_group_data.proofs.base.set_raw_base_values.Statement.{statement}
 use Rattle.versioned_group_data.proofs.base.set_raw_base_values.Tie as tie
 
