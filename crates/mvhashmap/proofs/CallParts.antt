@@ -18,12 +18,13 @@ use Rattle.request.specs.declared.asked.Fields.{Fields}
 use Rattle.request.specs.declared.Checked.{Checked}
 use Rattle.request.specs.declared.Checked.the-variants.{Refused, Accepted}
 use Rattle.request.proofs.CheckAnswers.{accepted-passed}
-use Rattle.model.specs.Model.{firstOf, unlessRefused, ruling, step}
+use Rattle.model.specs.Model.{unlessRefused, ruling, step}
 use Rattle.versioned_data.specs.Layout.{dataValid}
 use Rattle.group_slots.specs.Layout.{groupValid}
-use Rattle.mvhashmap.specs.Call.{stores, Lent, lent, called, sound, storeRefusal, earlyRefusal, refusedBy, calledBy, callOf, Calls}
+use Rattle.mvhashmap.specs.Call.{stores, Lent, lent, called, sound, refusedBy, callOf, Calls}
 use Rattle.mvhashmap.specs.Served.{Asked, servedBy, Serves, ServesData, ServesGroup}
-use Rattle.mvhashmap.proofs.StoresSound.{data-valid, group-valid, long-slice, short-refused, callOf-long}
+use Rattle.mvhashmap.proofs.CallOrder.{refused-by-slice, refused-by-request, refused-by-stores}
+use Rattle.mvhashmap.proofs.StoresSound.{data-valid, group-valid, callOf-long}
 
 pub asked-accepted : (t o : List ℕ) → answerWidth ≤ length o → (x : Checked) → x ≡ checkOf t → (f : Fields) → x ≡ Accepted f → Asked t f o
 asked-accepted t o room x e f h = record { checked = sym e ∙ h; room = room }
@@ -43,20 +44,11 @@ module _ (t : List ℕ) (l : Lent) where
   calls-number n e = record { called = sym e }
 
   pub calls-short : length (l .out) < answerWidth → Calls t l answerTooShort l
-  calls-short h = calls-number answerTooShort (short-refused t l h)
-
-  -- an early refusal is the call's
-  early : (n : ℕ) → earlyRefusal t l ≡ suc n → callOf t l ≡ refusedBy (suc n) l
-  unfolding callOf unlessRefused calledBy
-  early n e = rw e refl
+  calls-short h = calls-number answerTooShort (refused-by-slice t l h)
 
   module _ (room : answerWidth ≤ length (l .out)) where
-    early-long : earlyRefusal t l ≡ firstOf (refusalOf t) (storeRefusal (l .stores))
-    unfolding earlyRefusal firstOf
-    early-long = rw (long-slice (l .out) room) refl
-
     refused : (n : ℕ) → checkOf t ≡ Refused n → Calls t l n l
-    unfolding checkOf firstOf
+    unfolding checkOf
     refused n h = go (refusalOf t) refl h
       where
         go : (m : ℕ) → refusalOf t ≡ m → cond (eqb m 0) (Accepted (fieldsAt t)) (Refused m) ≡ Refused n → Calls t l n l
@@ -64,7 +56,7 @@ module _ (t : List ℕ) (l : Lent) where
         go (suc m) e k =
             let same : Refused (suc m) ≡ Refused n = rw (eqb·suc-zero m) at k in
             let number : suc m ≡ n = cc in
-            rw (sym number) (calls-number (suc m) (early m (early-long ∙ rw e refl)))
+            rw (sym number) (calls-number (suc m) (refused-by-request t l room m e))
 
     module _ (x : Checked) (checked : x ≡ checkOf t) where
       pub calls-refused : (n : ℕ) → x ≡ Refused n → Calls t l n l
@@ -73,10 +65,7 @@ module _ (t : List ℕ) (l : Lent) where
 module _ (t : List ℕ) (l : Lent) (f : Fields) (a : Asked t f (l .out)) where
   -- "5: range, pair or partner rule broken"
   calls-unsound : sound (l .stores) ≡ false → Calls t l damagedStore l
-  unfolding storeRefusal firstOf
-  calls-unsound v =
-      calls-number t l damagedStore
-      (early t l 4 (early-long t l (a .room) ∙ rw (accepted-passed t f (a .checked) .refusal, v) refl))
+  calls-unsound v = calls-number t l damagedStore (refused-by-stores t l (a .room) (accepted-passed t f (a .checked) .refusal) v)
 
   pub calls-data-invalid : (b : Bool) → b ≡ dataValid (l .stores .data-words) → not b ≡ true → Calls t l damagedStore l
   unfolding sound

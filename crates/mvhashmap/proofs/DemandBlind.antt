@@ -26,7 +26,8 @@ use Rattle.versioned_group_data.specs.Ruled.{answerIn}
 use Rattle.mvhashmap.specs.Call.{Stores, Lent, Called, fixedOf, holding, refusedBy, calledBy}
 use Rattle.mvhashmap.specs.Run.{Call, cleared, lentTo, answerWords, shown, seenOf, turnsOn, areWords, isLong, longEnough, callBy, modelLeft}
 use Rattle.mvhashmap.specs.Demands.{Blind}
-use Rattle.mvhashmap.proofs.StoresSound.{long-slice, callOn-holding, left-callBy, modelLeft-long, modelLeft-fine, modelLeft-fits}
+use Rattle.mvhashmap.proofs.CallOrder.{long-slice}
+use Rattle.mvhashmap.proofs.StoresSound.{callOn-holding, left-callBy, modelLeft-long, modelLeft-fine, modelLeft-fits}
 use Rattle.mvhashmap.proofs.DemandRight.{holding-empty, first-words, later-words}
 
 -- The answer is taken back from the slice by the count in its head.

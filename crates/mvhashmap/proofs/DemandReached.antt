@@ -18,13 +18,10 @@ use Rattle.model.proofs.SlotLaws.{fits-after, fits-empty}
 use Rattle.model.proofs.FineModel.{empty-fine}
 use Rattle.model.proofs.StepFacts.{proper, step-proper, after-empty-fine}
 use Rattle.mvhashmap.specs.Call.{Stores, Lent, Called, modelIn, fixedOf, holding, sliceRefusal, refusedBy, calledBy}
-use Rattle.mvhashmap.specs.Run.{Call, cleared, lentTo, callOn, areWords, isLong, callBy, modelLeft}
+use Rattle.mvhashmap.specs.Run.{Call, cleared, lentTo, storesAfter, acceptedOn, areWords, isLong, callBy, modelLeft}
+use Rattle.mvhashmap.specs.Demands.{Accepted}
 use Rattle.mvhashmap.proofs.StoresSound.{modelIn-holding, callOn-holding, left-callBy, modelLeft-long, modelLeft-short, modelLeft-fine, modelLeft-fits}
 use Rattle.mvhashmap.proofs.DemandRight.{holding-empty, first-words, later-words}
-
-unfoldable pub storesAfter : Stores → List Call → Stores
-storesAfter s [] = s
-storesAfter s (c ∷ cs) = storesAfter (callOn s c .lent .stores) cs
 
 -- The requests that 1 does not refuse.
 unfoldable pub requestsOf : List Call → List (List ℕ)
@@ -81,11 +78,6 @@ module _ (n k : ℕ) (cs : List Call) (w : areWords cs ≡ true) where
 
 -- ---- the accepted requests alone
 
-unfoldable pub acceptedOn : Stores → List Call → List (List ℕ)
-acceptedOn s [] = []
-acceptedOn s (c ∷ cs) =
-    cond (eqb (callOn s c .result) 0) (c .request ∷ acceptedOn (callOn s c .lent .stores) cs) (acceptedOn (callOn s c .lent .stores) cs)
-
 module _ (s : Stores) where
   after-callBy : (m : Model) (c : Call) (ts : List (List ℕ)) →
       after (fixedOf s) m (cond (eqb (callBy s m c .result) 0) (c .request ∷ ts) ts) ≡ after (fixedOf s) (modelLeft s m c) ts
@@ -113,10 +105,8 @@ module _ (s : Stores) where
       ∙ after-acceptedOn (modelLeft s m c) cs (modelLeft-fine s m f h c (first-words c cs w)) (modelLeft-fits s m f h c) (later-words c cs w)
       ∙ after-modelLeft s m c cs
 
--- The model that the stores hold is the definition's over the accepted requests alone.
-pub modelIn-acceptedOn : (n k : ℕ) (cs : List Call) → areWords cs ≡ true →
-    modelIn (storesAfter (cleared n k) cs) ≡ after (fixedOf (cleared n k)) empty (acceptedOn (cleared n k) cs)
-modelIn-acceptedOn n k cs w =
+pub accepted : Accepted
+accepted n k cs w =
     modelIn-storesAfter n k cs w
     ∙ sym (after-acceptedOn (cleared n k) empty cs empty-fine (fits-empty (fixedOf (cleared n k))) w)
     ∙ ap (λ (s : Stores). after (fixedOf (cleared n k)) empty (acceptedOn s cs)) (holding-empty n k)

@@ -1,3 +1,4 @@
+pub mod CallOrder
 pub mod StoresSound
 pub mod DemandTotal
 pub mod DemandRight

@@ -5,10 +5,8 @@ use mathlib.Core.Bool.{true}
 use mathlib.Core.List.{List}
 use Prim.Native.Nat.{ℕ, zero, suc, _≤_, _<_}
 use lib.ListN.{length}
-use borrow.Author.Tests.{lt-ltb, le-ltb}
 use Rattle.lists.specs.Lists.{every}
 use Rattle.lists.proofs.Bools.{and-both, and-left, and-right}
-use Rattle.types.specs.Refusal.{answerTooShort}
 use Rattle.types.specs.Response.{answerWidth}
 use Rattle.request.specs.Request.{refusalOf}
 use Rattle.store.specs.Slots.{slotsIn}
@@ -27,6 +25,7 @@ use Rattle.group_slots.specs.Layout.{fineGroups, groupValid, heldBy}
 use Rattle.group_slots.proofs.GroupHolding as Groups
 use Rattle.mvhashmap.specs.Call.{Stores, Lent, Called, sound, modelIn, fixedOf, groupsOf, holding, sliceRefusal, storeRefusal, earlyRefusal, refusedBy, calledBy, callOf}
 use Rattle.mvhashmap.specs.Run.{Call, lentTo, callOn, callBy, modelLeft}
+use Rattle.mvhashmap.proofs.CallOrder.{long-slice, short-slice}
 
 -- ---- stores that hold a fine model
 
@@ -110,20 +109,7 @@ module _ (s : Stores) (v : sound s ≡ true) where
         group-words = Groups.holding-groups (s .group-words) group-valid i;
       }
 
--- ---- the early refusals
-
-pub long-slice : (out : List ℕ) → answerWidth ≤ length out → sliceRefusal out ≡ 0
-unfolding sliceRefusal
-long-slice out l = rw (le-ltb (length out) answerWidth l) refl
-
-pub short-slice : (out : List ℕ) → length out < answerWidth → sliceRefusal out ≡ answerTooShort
-unfolding sliceRefusal
-short-slice out l = rw (lt-ltb (length out) answerWidth l) refl
-
--- 1 alone: a slice that is too short
-pub short-refused : (t : List ℕ) (l : Lent) → length (l .out) < answerWidth → callOf t l ≡ refusedBy answerTooShort l
-unfolding callOf earlyRefusal firstOf unlessRefused calledBy
-short-refused t l h = rw (short-slice (l .out) h) refl
+-- ---- a call on sound stores
 
 step-refused : (s : Fixed) (m : Model) (t : List ℕ) (n : ℕ) → refusalOf t ≡ suc n → step s m t ≡ refuse (suc n)
 unfolding step ruling unlessRefused unlessFull

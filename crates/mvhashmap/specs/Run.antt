@@ -30,6 +30,16 @@ unfoldable pub calls : Stores → List Call → List Called
 calls s [] = []
 calls s (c ∷ cs) = callOn s c ∷ calls (callOn s c .lent .stores) cs
 
+-- The stores that they leave, and the requests among them that were accepted.
+unfoldable pub storesAfter : Stores → List Call → Stores
+storesAfter s [] = s
+storesAfter s (c ∷ cs) = storesAfter (callOn s c .lent .stores) cs
+
+unfoldable pub acceptedOn : Stores → List Call → List (List ℕ)
+acceptedOn s [] = []
+acceptedOn s (c ∷ cs) =
+    cond (eqb (callOn s c .result) 0) (c .request ∷ acceptedOn (callOn s c .lent .stores) cs) (acceptedOn (callOn s c .lent .stores) cs)
+
 -- What a caller sees of a call: the result, and the answer's words where that is 0. "Answer head, same shape": bits 0 to 27 count the words after it.
 unfoldable pub answerWords : List ℕ → List ℕ
 answerWords out = take (suc (countIn (getD out 0 0))) out
