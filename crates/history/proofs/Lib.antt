@@ -1,7 +1,13 @@
 mod InputWords
 mod InputMoves
 mod InputRequests
+mod InputDecided
 mod LineLaws
+mod WholeLaws
 mod StateLaws
-mod InputBuffered
-mod TurnLaws
+mod TurnCalls
+mod TurnSteps
+mod TurnAnswers
+mod TurnPromises
+mod WholeEnds
+mod RanLaws

@@ -1,9 +1,9 @@
 -- 01, "History program": "It reads words, little-endian, from standard input". "A head counting over 453 words, or a cut end, prints `no 2` and
 -- stops."
-use mathlib.Core.Bool.{cond}
+use mathlib.Core.Bool.{Bool, true, false, cond}
 use mathlib.Core.List.{List, [], _∷_}
 use Prim.Native.Nat.{ℕ, zero, suc, _+_, _*_, _^_}
-use lib.Dec.{ltb}
+use lib.Dec.{ltb, leb}
 use lib.ListN.{length, getD, drop}
 use Rattle.types.specs.Response.{countIn}
 use Rattle.request.specs.Table.{longestCount}
@@ -28,3 +28,7 @@ requestIn b =
     (cond (ltb (suc longestCount) (wordsIn b)) []
     (cond (ltb (length b) (4 * wordsIn b)) []
     (wordsFrom (wordsIn b) b)))
+
+-- Whether bytes decide the request that they start with: whatever follows them, it is that one (`requestIn-decided`).
+unfoldable pub decided : List ℕ → Bool
+decided b = cond (ltb (length b) 4) false (cond (ltb (suc longestCount) (wordsIn b)) true (leb (4 * wordsIn b) (length b)))

@@ -1,17 +1,18 @@
--- One turn of the program: it reads on, makes room for a line, calls with the next request of what is unread, and puts the line of what that call
+-- One turn of the program: it writes what waits, or reads on, or calls with the next request of what is unread and puts the line of what that call
 -- shows. The call is the definition's (`callOf`).
 use mathlib.Core.Path.{_≡_}
-use mathlib.Core.Bool.{cond}
-use mathlib.Core.List.{List, []}
-use Prim.Native.Nat.{ℕ, _+_, _*_}
+use mathlib.Core.Bool.{true, cond}
+use mathlib.Core.List.{List, [], _++_}
+use Prim.Native.Nat.{ℕ, _+_, _*_, _%_, _^_, _<_}
 use lib.Dec.{eqb}
-use lib.ListN.{length}
+use lib.ListN.{length, take}
 use lib.Seq.{sets}
 use Rattle.mvhashmap.specs.Call.{Lent, callOf}
 use Rattle.mvhashmap.specs.Run.{seenOf}
 use Rattle.history.specs.Input.{requestIn}
 use Rattle.history.specs.Line.{lineOf}
-use Rattle.history.specs.State.{unread, Filled, flushedOf}
+use Rattle.history.specs.Whole.{requestsIn, linesOf, lentAfter}
+use Rattle.history.specs.State.{unread, MayFollow}
 use Rattle.history.specs.declared.state.State.{State}
 
 -- The line for the unread bytes u, over what is lent to the call. No input prints nothing.
@@ -25,8 +26,11 @@ after s u line =
       at = s .at + 4 * length (requestIn u);
       end = s .end;
       put = s .put + length line;
+      got = s .got;
+      sent = s .sent;
       over = s .over;
       stop = eqb (length (requestIn u)) 0;
+      failed = s .failed;
     }
 
 -- The request that the unread bytes u start with is answered.
@@ -35,12 +39,23 @@ pub record Answered (s : State) (u : List ℕ) (l : Lent) (o : List ℕ) (r : St
   pub line : o-after ≡ sets o (s .put) (lineFor u l)
   pub state : r ≡ after s u (lineFor u l)
 
--- The state with room for a line in a buffer of n bytes.
-unfoldable pub roomy : ℕ → State → State
-roomy n s = record { at = s .at; end = s .end; put = flushedOf n (s .put); over = s .over; stop = s .stop }
+-- What is yet to be written where `rest` is all that is yet to be read: the lines that wait, and those of the requests to come.
+unfoldable pub linesAhead : State → List ℕ → Lent → List ℕ → List ℕ → List ℕ
+linesAhead s b l o rest = take (s .put) o ++ cond (s .stop) [] (linesOf (requestsIn (unread s b ++ rest)) l)
 
--- The whole turn, from the bytes b to the bytes c that it reads on to.
+-- What the requests to come leave of what is lent.
+unfoldable pub lentAhead : State → List ℕ → Lent → List ℕ → Lent
+lentAhead s b l rest = cond (s .stop) l (lentAfter (requestsIn (unread s b ++ rest)) l)
+
+-- Some turns, from a state, the bytes b and o of its buffers and what is lent: whatever is yet to be read, what was to be written is what was handed
+-- to write and then what is yet to be written.
 pub record Turned (s : State) (b : List ℕ) (l : Lent) (o : List ℕ) (r : State) (c : List ℕ) (l-after : Lent) (o-after : List ℕ) : Type 0 where
-  pub filled : State
-  pub reads-on : Filled s b filled c
-  pub answered : Answered (roomy (length o) filled) (unread filled c) l o r l-after o-after
+  -- the bytes that reads brought, and those that were handed to write
+  pub read : List ℕ
+  pub written : List ℕ
+  pub got : r .got ≡ s .got + length read
+  pub sent : s .sent < 2 ^ 64 → r .sent ≡ (s .sent + length written) % 2 ^ 64
+  -- nothing is read where the input is over, and it stays over
+  pub ended : s .over ≡ true → (read ≡ []) × (r .over ≡ true)
+  pub lines : (rest : List ℕ) → MayFollow r rest → linesAhead s b l o (read ++ rest) ≡ written ++ linesAhead r c l-after o-after rest
+  pub lent : (rest : List ℕ) → MayFollow r rest → lentAhead s b l (read ++ rest) ≡ lentAhead r c l-after rest

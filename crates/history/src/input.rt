@@ -1,4 +1,4 @@
-// The next request of the input.
+// The next request of the input, and whether it is all there.
 use super::word;
 use request::table::LONGEST_COUNT;
 use types::response;
@@ -7,7 +7,7 @@ ghost use mathlib.Core.List.{_++_};
 ghost use Prim.Native.Nat.{suc, _≤_};
 ghost use lib.ListN.{length, drop};
 ghost use Rattle.request.specs.Table.{longestCount};
-ghost use Rattle.history.specs.Input.{requestIn};
+ghost use Rattle.history.specs.Input.{requestIn, decided};
 
 // Puts the words of the request that the bytes start with at the front, and answers how many they
 // are: none if the head counts too many words or the end is cut.
@@ -29,4 +29,18 @@ pub fn next(b: &[u8], words: &mut [u32]) -> usize
     }
     word::load(b, words, n);
     n
+}
+
+// Whether the bytes decide the request that they start with, whatever follows them.
+pub fn decided(b: &[u8]) -> bool
+    ensures decided { λ r. ⌜ r ≡ decided (now (b .entry)) ⌝ }
+{
+    if b.len() < 4 {
+        return false;
+    }
+    let count = response::count_in(word::word_at(b, 0));
+    if count <= LONGEST_COUNT {
+        return 4 * (count + 1) <= b.len();
+    }
+    true
 }

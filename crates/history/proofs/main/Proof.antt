@@ -1,5 +1,5 @@
-use native.Mathlib.Omega.{arith}
 use Prim.Native.Nat.{ℕ}
+use native.Mathlib.Omega.{arith}
 use lib.ListN.{replicate, length-replicate}
 use Rattle.versioned_data.proofs.EntriesCleared as Data
 use Rattle.group_slots.proofs.GroupCleared as Group
@@ -46,8 +46,17 @@ run-requires c κs =
       ),
     )
 
+slice-aggregate-write-all : tie.Need-slice-aggregate-write-all
+slice-aggregate-write-all c = search needs
+
+write-all-requires : tie.Need-write-all-requires
+write-all-requires c κs = search needs
+
 returns : tie.Need-returns
 returns c = search needs
+
+returns-2 : tie.Need-returns-2
+returns-2 c = search needs
 
 pub main-spec : {M : Type 1} → statement M
 main-spec =
@@ -62,4 +71,7 @@ main-spec =
     slice-aggregate-run-5
     slice-aggregate-run-6
     run-requires
-    returns)
+    slice-aggregate-write-all
+    write-all-requires
+    returns
+    returns-2)

@@ -2,7 +2,7 @@ use Prim.Native.Nat.{_-_}
 use lib.ListN.{take, drop, length-take}
 use Rattle.history.proofs.InputRequests.{request-fits}
 use Rattle.mvhashmap.specs.Call.{lent}
-use Rattle.history.proofs.TurnLaws.{answered-nothing, served, shown-fits, answered-request}
+use Rattle.history.proofs.TurnCalls.{answered-nothing, served, shown-fits, answered-request}
 use native.Mathlib.Omega.{arith}
 use borrow.Author.Needs.{needs}
 use Rattle.history.proofs.turn.answered.Statement.{statement}
@@ -63,8 +63,8 @@ put-requires c κs =
     in
     (m .small, (omega arith, (m .few, omega arith)))
 
-mul-t17 : tie.Need-mul-t17
-mul-t17 c =
+mul-next : tie.Need-mul-next
+mul-next c =
     let at-start = c .before .before .before .before .before .before .before .before .before .before .before .before .before .before .before .before .before .before .before .before .before .before .before .before .before .before .before .before in
     let at-next = c .before .before .before .before .before .before .before .before .before .before .before .before .before .before .before .before .before .before in
     let at-words = c .before .before .before .before .before .before .before .before .before .before .before .before .before .before .before .before in
@@ -76,8 +76,8 @@ mul-t17 c =
     in
     omega (arith, m .used)
 
-add-t34 : tie.Need-add-t34
-add-t34 c =
+add-next : tie.Need-add-next
+add-next c =
     let at-start = c .before .before .before .before .before .before .before .before .before .before .before .before .before .before .before .before .before .before .before .before .before .before .before .before .before .before .before .before in
     let at-next = c .before .before .before .before .before .before .before .before .before .before .before .before .before .before .before .before .before .before in
     let at-words = c .before .before .before .before .before .before .before .before .before .before .before .before .before .before .before .before in
@@ -141,8 +141,8 @@ answered-spec =
     slice-aggregate-inner-call
     inner-call-requires
     put-requires
-    mul-t17
-    add-t34
+    mul-next
+    add-next
     same-length
     same-length-2
     same-length-3

@@ -1,11 +1,11 @@
--- Laws of a turn: the call that the next request makes, and what it leaves.
+-- Laws of the call that the next request makes, and of what it leaves.
 use mathlib.Core.Path.{_≡_, refl, sym, ap, _∙_}
 use mathlib.Core.Bool.{Bool, true, false, _||_}
 use mathlib.Core.List.{List, [], _∷_}
 use Prim.Native.Nat.{ℕ, suc, _+_, _-_, _*_, _<_, _≤_}
 use native.Mathlib.Omega.{arith}
 use lib.Dec.{leb, ltb, eqb}
-use lib.ListN.{length, getD, take, drop, length-take, length-drop}
+use lib.ListN.{length, getD, take, drop}
 use lib.Seq.{sets}
 use borrow.Author.Tests.{leb-true, ltb-true, eqb-true, le-ltb, eq-eqb, ne-eqb}
 use Rattle.lists.specs.Lists.{every}
@@ -26,14 +26,16 @@ use Rattle.versioned_group_data.specs.Ruled.{answerIn}
 use Rattle.mvhashmap.specs.Call.{Lent, Called, sound, modelIn, fixedOf, earlyRefusal, refusedBy, calledBy, callOf, Calls}
 use Rattle.mvhashmap.specs.Run.{shown, seenOf}
 use Rattle.mvhashmap.proofs.DemandTotal.{total}
-use Rattle.mvhashmap.proofs.StoresSound.{modelIn-fine, long-slice, callOf-long, callOf-sound}
+use Rattle.mvhashmap.proofs.StoresSound.{modelIn-fine, callOf-long, callOf-sound}
+use Rattle.mvhashmap.proofs.CallOrder.{long-slice}
 use Rattle.history.specs.Input.{requestIn}
 use Rattle.history.specs.Line.{lineOf}
-use Rattle.history.specs.State.{longestLine, Within, unread, flushedOf}
-use Rattle.history.specs.Turn.{lineFor, after, Answered, roomy}
+use Rattle.history.specs.State.{longestLine, Within, unread}
+use Rattle.history.specs.Turn.{lineFor, after, Answered}
 use Rattle.history.specs.declared.state.State.{State}
 use Rattle.history.proofs.InputRequests.{Loads, request-taken, request-fits, request-none}
 use Rattle.history.proofs.LineLaws.{shown-short}
+use Rattle.history.proofs.StateLaws.{length-unread}
 
 -- Every call refuses no words by 2.
 pub callOf-nothing : (l : Lent) → answerWidth ≤ length (l .out) → callOf [] l ≡ refusedBy wrongCount l
@@ -81,12 +83,6 @@ shown-seen : (t : List ℕ) (l : Lent) (r : ℕ) (after : Lent) → Calls t l r 
 unfolding seenOf
 shown-seen t l r after k = ap seenOf (k .called)
 
--- ---- unread bytes
-
-length-unread : (s : State) (b : List ℕ) → Within (length b) s → length (unread s b) ≡ s .end - s .at
-unfolding unread
-length-unread s b h = omega (arith, h .from, h .to, length-take (s .end - s .at) (drop (s .at) b), length-drop (s .at) b)
-
 -- Nothing is unread, so nothing is put, and the run stops.
 module _ (s : State) (b : List ℕ) (l : Lent) (o : List ℕ) (within : Within (length b) s) (long : answerWidth ≤ length (l .out)) (e : s .at ≡ s .end) where
   empty : length (unread s b) ≡ 0
@@ -102,7 +98,7 @@ module _ (s : State) (b : List ℕ) (l : Lent) (o : List ℕ) (within : Within (
   unfolding lineFor
   no-line = rw (eq-eqb _ 0 empty) refl
 
-  pub answered-nothing : Answered s (unread s b) l o (record { at = s .at; end = s .end; put = s .put; over = s .over; stop = true }) l o
+  pub answered-nothing : Answered s (unread s b) l o (record { at = s .at; end = s .end; put = s .put; got = s .got; sent = s .sent; over = s .over; stop = true; failed = s .failed }) l o
   unfolding after refusedBy
   answered-nothing =
       record {
@@ -172,7 +168,7 @@ module _ (s : State) (b : List ℕ) (l l′ : Lent) (n r put : ℕ) (m : Served 
         let h : length (unread s b) ≡ 0 → ⊥ = λ z. some (omega (arith, within .from, length-unread s b within)) in
         rw (ne-eqb (length (unread s b)) 0 h) (ap lineOf (shown-seen (requestIn (unread s b)) l r l′ (m .called)))
 
-    pub answered-request : Answered s (unread s b) l o (record { at = s .at + 4 * n; end = s .end; put = put; over = s .over; stop = eqb n 0 }) l′ p
+    pub answered-request : Answered s (unread s b) l o (record { at = s .at + 4 * n; end = s .end; put = put; got = s .got; sent = s .sent; over = s .over; stop = eqb n 0; failed = s .failed }) l′ p
     unfolding after
     answered-request =
         record {
@@ -184,15 +180,10 @@ module _ (s : State) (b : List ℕ) (l l′ : Lent) (n r put : ℕ) (m : Served 
                 at = s .at + 4 * m .count i;
                 end = s .end;
                 put = (end ∙ ap (λ (x : List ℕ). s .put + length x) its-line) i;
+                got = s .got;
+                sent = s .sent;
                 over = s .over;
                 stop = eqb (m .count i) 0;
+                failed = s .failed;
               };
         }
-
--- The state that is answered from is the one with room for a line.
-pub answered-roomy : (f : State) (put : ℕ) (c : List ℕ) (l : Lent) (o : List ℕ) (r : State) (l′ : Lent) (o′ : List ℕ) → put ≡ flushedOf (length o) (f .put)
-    → Answered (record { at = f .at; end = f .end; put = put; over = f .over; stop = f .stop })
-    (unread (record { at = f .at; end = f .end; put = put; over = f .over; stop = f .stop }) c) l o r l′ o′
-    → Answered (roomy (length o) f) (unread f c) l o r l′ o′
-unfolding roomy unread
-answered-roomy f put c l o r l′ o′ e h = rw e at h
