@@ -6,8 +6,9 @@ pub mod differences;
 pub mod maps;
 pub mod oracle;
 pub mod panics;
+mod plain_panics;
 pub mod program;
-mod refusals;
+pub mod refusals;
 mod slots;
 
 pub use maps::Maps;

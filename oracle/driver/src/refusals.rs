@@ -3,7 +3,7 @@
 use request::Kind::{self, *};
 
 /// Kind of ticket, a part of the message that no other failure of that kind has, and 01's number.
-const FAILURES: [(Kind, &str, u32); 25] = [
+pub const FAILURES: [(Kind, &str, u32); 25] = [
     (Base, "assertion failed: v.bytes()", 8),
     (Base, "assertion `left == right` failed", 8),
     (Write, "assertion failed: prev_entry.map_or", 7),

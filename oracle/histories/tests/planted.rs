@@ -49,7 +49,7 @@ fn cases_show_a_fault() {
 #[test]
 fn short_histories_show_a_fault() {
     let report = compare::short_ones(&planted("short", "late")).expect_err("a fault is planted");
-    has(&report, &["shrunk to 2", "fetch key 0 index 0", "oracle:  40000000  (Uninitialized)"]);
+    has(&report, &["shrunk to 2", "fetch key=0 index=0", "oracle:  40000000  (Uninitialized)"]);
 }
 
 #[test]

@@ -20,6 +20,7 @@ fn main() {
 
 fn print(difference: &Difference) {
     println!("## {}\n\n{}\n", difference.name, difference.why);
+    println!("Decided by: {}\n", difference.decided);
     println!("| ticket | the Rust, bare | ours |\n|---|---|---|");
     let tickets = difference.history();
     let rows = bare(&tickets).into_iter().zip(ours(&tickets));
