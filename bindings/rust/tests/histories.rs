@@ -3,37 +3,16 @@
 
 mod common;
 
-use common::lent::{Lent, UNTOUCHED};
+use common::lent::{answered, Lent, BLANK};
 use common::random::Random;
+use common::some::{some_delta, some_value};
 use common::valid::both_valid;
 use common::words::*;
-use proved_mvhashmap::{MVHashMap, Refusal};
+use proved_mvhashmap::MVHashMap;
 
 const UNITS: usize = 24;
 const HISTORIES: u64 = 600;
 const REQUESTS: usize = 200;
-
-fn some_value(random: &mut Random, exchanged: bool) -> Value {
-    // A first base is accepted only if it creates.
-    let kind = if exchanged { random.below(3) } else { random.pick(&[0, 0, 0, 0, 0, 0, 1, 2]) };
-    let head = kind << 30 | u32::from(exchanged) << 29;
-    match (head >> 30, random.below(4)) {
-        (2, _) => value(head, 0, random.word(), 0),
-        (_, 0) => value(head | random.below(9), 0, random.word(), 0),
-        (_, 1) if exchanged => value(head | 16, random.below(3), random.word(), random.number()),
-        _ => value(head | 16, 0, random.word(), u128::from(random.below(100))),
-    }
-}
-
-fn some_delta(random: &mut Random) -> Vec<u32> {
-    let limit = random.pick(&[100, 100, 150]);
-    let size = u128::from(random.below(40));
-    if random.chance(2) {
-        plus(size, limit)
-    } else {
-        minus(size, limit)
-    }
-}
 
 /// Both ends of both words of a set.
 const TAGS: [u32; 4] = [0, 31, 32, 63];
@@ -79,13 +58,6 @@ fn some_request(random: &mut Random) -> Vec<u32> {
     request
 }
 
-fn answered(said: Result<(), Refusal>, answer: &[u32]) -> Result<Vec<u32>, Refusal> {
-    let count = (answer[0] & 0x0FFF_FFFF) as usize;
-    let past = &answer[said.map_or(0, |()| 1 + count)..];
-    assert!(past.iter().all(|&word| word == UNTOUCHED));
-    said.map(|()| answer[..=count].to_vec())
-}
-
 #[test]
 fn the_calls_agree() {
     let mut met = [0; 15];
@@ -97,12 +69,13 @@ fn the_calls_agree() {
         for _ in 0..REQUESTS {
             let request = some_request(&mut random);
             let expected = lent.call(&request);
-            let mut answer = [UNTOUCHED; 460];
+            let name = || format!("{request:X?}");
+            let mut answer = BLANK;
             let said = shared.request(&request, &mut answer);
-            assert_eq!(answered(said, &answer), expected, "{request:X?}");
-            answer.fill(UNTOUCHED);
+            assert_eq!(answered(said, &answer, name), expected, "{request:X?}");
+            answer = BLANK;
             let said = alone.request_mut(&request, &mut answer);
-            assert_eq!(answered(said, &answer), expected, "{request:X?}");
+            assert_eq!(answered(said, &answer, name), expected, "{request:X?}");
             assert!(both_valid(&lent.data, &lent.group), "{request:X?}");
             met[expected.map_or_else(|refusal| refusal.number() as usize, |_| 0)] += 1;
         }

@@ -2,7 +2,7 @@
 
 mod common;
 
-use common::lent::Lent;
+use common::lent::{units_of, Lent};
 use common::valid::both_valid;
 use common::words::*;
 use proved_mvhashmap::{Refusal, ANSWER_WORDS, MAX_UNITS, UNIT_WORDS};
@@ -131,10 +131,6 @@ fn with_free_words(words: usize) -> Lent {
     lent.data[past..].fill(FREE);
     lent.group[past..].fill(FREE);
     lent
-}
-
-fn units_of(words: usize) -> usize {
-    (words / UNIT_WORDS).min(MAX_UNITS)
 }
 
 /// A store takes what its units hold and then refuses by 14; the free words stay.

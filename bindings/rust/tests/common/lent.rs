@@ -1,9 +1,29 @@
 //! Stores and an answer slice of the test's own, lent to the open call.
 
-use proved_mvhashmap::{call, Refusal, UNIT_WORDS};
+use proved_mvhashmap::{call, Refusal, MAX_UNITS, UNIT_WORDS};
 
 /// What stands in the answer slice before a call: no answer has this word in every place.
 pub const UNTOUCHED: u32 = 0xA5A5_A5A5;
+
+/// An answer slice before a call, with room past the longest answer.
+pub const BLANK: [u32; 460] = [UNTOUCHED; 460];
+
+/// The answer's words in a slice that was `BLANK` before the call. A refusal has none, and words
+/// past an answer are untouched. The name is the request's, for a failure.
+pub fn answered(
+    said: Result<(), Refusal>,
+    answer: &[u32; 460],
+    name: impl FnOnce() -> String,
+) -> Result<Vec<u32>, Refusal> {
+    let words = said.map_or(0, |()| 1 + (answer[0] & 0x0FFF_FFFF) as usize);
+    assert!(answer[words..] == BLANK[words..], "words past the answer, {said:?}: {}", name());
+    said.map(|()| answer[..words].to_vec())
+}
+
+/// "A store of W words has W / 32 units, rounded down, at most 4,096."
+pub fn units_of(words: usize) -> usize {
+    (words / UNIT_WORDS).min(MAX_UNITS)
+}
 
 #[derive(Clone)]
 pub struct Lent {

@@ -3,5 +3,6 @@
 
 pub mod lent;
 pub mod random;
+pub mod some;
 pub mod valid;
 pub mod words;

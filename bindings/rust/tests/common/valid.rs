@@ -3,6 +3,7 @@
 //! the rules and the words come out the same. The layout is that of the comments at the top of
 //! crates/versioned_data/specs/Layout.antt and crates/group_slots/specs/Layout.antt.
 
+use super::words::number_in;
 use proved_mvhashmap::{MAX_UNITS, UNIT_WORDS};
 use std::collections::BTreeMap;
 
@@ -205,10 +206,7 @@ fn value_is_fine(value: &Value) -> bool {
 
 /// 01, "Delta, 17 words": H ≤ M, L ≤ M, −L ≤ u ≤ H, and no minus zero.
 fn delta_is_fine(delta: &[u32; 17]) -> bool {
-    let number = |at: usize| {
-        delta[at..at + 4].iter().rev().fold(0u128, |n, &word| n << 32 | u128::from(word))
-    };
-    let (limit, high, low, size) = (number(0), number(4), number(8), number(12));
+    let [limit, high, low, size] = [0, 4, 8, 12].map(|at| number_in(&delta[at..]));
     let within = match delta[16] {
         0 => size <= high,
         1 => size != 0 && size <= low,

@@ -14,8 +14,13 @@ pub fn request(kind: u32, fields: &[u32]) -> Vec<u32> {
     [&[kind << 28 | fields.len() as u32], fields].concat()
 }
 
-fn number(n: u128) -> [u32; 4] {
+pub fn number(n: u128) -> [u32; 4] {
     [0, 32, 64, 96].map(|shift| (n >> shift) as u32)
+}
+
+/// The number that four words hold, low word first.
+pub fn number_in(words: &[u32]) -> u128 {
+    words[..4].iter().rev().fold(0, |n, &word| n << 32 | u128::from(word))
 }
 
 pub fn value(head: u32, layout: u32, handle: u32, n: u128) -> Value {
@@ -55,6 +60,12 @@ pub fn members(tagged: &[(u32, Value)]) -> Vec<u32> {
     let set = sorted.iter().fold(0u64, |set, (tag, _)| set | 1 << tag);
     let values: Vec<u32> = sorted.iter().flat_map(|(_, value)| *value).collect();
     [&[set as u32, (set >> 32) as u32], &values[..]].concat()
+}
+
+/// The tags of a set's two words, rising.
+pub fn tags_in(set: &[u32]) -> impl Iterator<Item = u32> {
+    let set = u64::from(set[1]) << 32 | u64::from(set[0]);
+    (0..64).filter(move |tag| set >> tag & 1 == 1)
 }
 
 pub fn last_committed(key: u32) -> Vec<u32> {
