@@ -38,3 +38,23 @@ fn main() -> ExitCode {
         }
     }
 }
+
+#[cfg(test)]
+mod tests {
+    use super::contestants;
+    use measure::rounds::{measure, Measured};
+    use measure::rows;
+
+    /// All agree on every row, of the smallest store, of one in which some rows have no room, and
+    /// of one that has them all.
+    #[test]
+    fn every_row() {
+        for units in [16, 64, 512] {
+            for scenario in rows::all(units) {
+                let mut contestants = contestants();
+                let mut measured = Measured::new(&scenario, &contestants);
+                measure(&scenario, &mut contestants, 0.0, &mut measured);
+            }
+        }
+    }
+}

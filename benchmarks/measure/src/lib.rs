@@ -39,8 +39,14 @@ pub fn run(
     }
     let table: Vec<&Measured> = all.iter().filter(|measured| measured.units == UNITS).collect();
     print!("{}", report::table(&table));
+    if let Some(fetch) = table.iter().find(|measured| measured.row == rows::FETCH) {
+        print!("\n{}", report::spread(fetch));
+    }
     if arguments.growth {
         print!("\n{}", report::growth(&all));
+    }
+    if arguments.wants_row(rows::SCAN) {
+        print!("\n{}", report::scan(&all));
     }
     match &arguments.csv {
         Some(path) => std::fs::write(path, report::csv(&all)),

@@ -1,6 +1,9 @@
 //! The tables, in markdown, and every figure, as CSV.
 
-use crate::rounds::Measured;
+use crate::{
+    rounds::{Figures, Measured},
+    rows::SCAN,
+};
 use request::{Kind, Request};
 use std::fmt::Write;
 
@@ -8,29 +11,61 @@ use std::fmt::Write;
 const QUOTIENTS: [(&str, &str); 3] =
     [("inner", "old, real"), ("inner", "old, stand-ins"), ("typed", "old, real")];
 
+/// Which round a figure is of.
+type Share = fn(&Figures) -> f64;
+
 /// ns an operation by contestant, the best of all rounds, and the quotients.
 pub fn table(measured: &[&Measured]) -> String {
-    let Some(first) = measured.first() else {
+    let best: Share = Figures::best;
+    let rows = measured.iter().filter(|m| m.row != SCAN).map(|m| (m.row, *m, best));
+    by_contestant("ns, best of a hundred rounds", rows.collect())
+}
+
+/// How far apart the rounds of a row are.
+pub fn spread(measured: &Measured) -> String {
+    let shares: [(&str, Share); 3] =
+        [("best", Figures::best), ("median", Figures::median), ("99 %", Figures::p99)];
+    let rows = shares.map(|(name, share)| (name, measured, share)).to_vec();
+    by_contestant(&format!("{}, ns, of all rounds", measured.row), rows)
+}
+
+fn by_contestant(corner: &str, rows: Vec<(&str, &Measured, Share)>) -> String {
+    let Some((_, first, _)) = rows.first() else {
         return String::new();
     };
     let quotients: Vec<_> = QUOTIENTS
         .into_iter()
-        .filter(|(new, old)| first.best(new).is_some() && first.best(old).is_some())
+        .filter(|(new, old)| first.of(new).is_some() && first.of(old).is_some())
         .collect();
     let mut heads: Vec<String> = first.figures.iter().map(|f| f.name.to_string()).collect();
     heads.extend(quotients.iter().map(|(new, old)| format!("{new} / {old}")));
-    let rows = measured.iter().map(|measured| {
-        let mut cells: Vec<String> = measured.figures.iter().map(|f| ns(f.best())).collect();
-        cells.extend(quotients.iter().map(|(new, old)| quotient(measured, new, old)));
-        (measured.row.to_string(), cells)
+    let lines = rows.iter().map(|(name, measured, share)| {
+        let mut cells: Vec<String> = measured.figures.iter().map(|f| ns(share(f))).collect();
+        cells.extend(quotients.iter().map(|(new, old)| quotient(measured, new, old, *share)));
+        (name.to_string(), cells)
     });
-    markdown("ns, best of a hundred rounds", &heads, rows)
+    markdown(corner, &heads, lines)
+}
+
+/// What the open call takes longer than the inner one, for each size.
+pub fn scan(measured: &[Measured]) -> String {
+    let scans: Vec<&Measured> = measured.iter().filter(|m| m.row == SCAN).collect();
+    let heads: Vec<String> = scans.iter().map(|m| units(m.units)).collect();
+    let shares: [(&str, Share); 2] = [("best", Figures::best), ("median", Figures::median)];
+    let lines = shares.map(|(name, share)| {
+        let cells = scans.iter().map(|m| match (m.of("open"), m.of("inner")) {
+            (Some(open), Some(inner)) => ns(share(open) - share(inner)),
+            _ => String::new(),
+        });
+        (name.to_string(), cells.collect())
+    });
+    markdown("ns, the open call's scan", &heads, lines.into_iter())
 }
 
 /// The library beside the old product for each size.
 pub fn growth(measured: &[Measured]) -> String {
     let (mut rows, mut sizes): (Vec<&str>, Vec<usize>) = (vec![], vec![]);
-    for m in measured {
+    for m in measured.iter().filter(|m| m.row != SCAN) {
         if !rows.contains(&m.row) {
             rows.push(m.row);
         }
@@ -42,7 +77,7 @@ pub fn growth(measured: &[Measured]) -> String {
         true => "old, real",
         false => "old, stand-ins",
     };
-    let heads: Vec<String> = sizes.iter().map(|units| format!("{units} units")).collect();
+    let heads: Vec<String> = sizes.iter().map(|size| units(*size)).collect();
     let lines = rows.iter().flat_map(|row| [old, "inner"].map(|name| (*row, name)));
     let lines = lines.map(|(row, name)| {
         let cells = sizes.iter().map(|units| {
@@ -68,18 +103,14 @@ pub fn mix(requests: &[Request]) -> String {
 }
 
 pub fn csv(measured: &[Measured]) -> String {
-    let mut text = String::from("row,units,contestant,best_ns,median_ns,rounds\n");
+    let mut text = String::from("row,units,contestant,best_ns,median_ns,rounds,p99_ns\n");
     for m in measured {
         for f in &m.figures {
             let (row, units, name) = (m.row, m.units, f.name);
-            writeln!(
-                text,
-                "{row},{units},\"{name}\",{:.1},{:.1},{}",
-                f.best(),
-                f.median(),
-                f.rounds()
-            )
-            .expect("a string takes all");
+            let (best, median, p99) = (f.best(), f.median(), f.p99());
+            let rounds = f.rounds();
+            writeln!(text, "{row},{units},\"{name}\",{best:.1},{median:.1},{rounds},{p99:.1}")
+                .expect("a string takes all");
         }
     }
     text
@@ -98,9 +129,13 @@ fn markdown(
     text
 }
 
-fn quotient(measured: &Measured, new: &str, old: &str) -> String {
-    match (measured.best(new), measured.best(old)) {
-        (Some(new), Some(old)) => format!("{:.2}", new / old),
+fn units(count: usize) -> String {
+    format!("{count} units")
+}
+
+fn quotient(measured: &Measured, new: &str, old: &str, share: Share) -> String {
+    match (measured.of(new), measured.of(old)) {
+        (Some(new), Some(old)) => format!("{:.2}", share(new) / share(old)),
         _ => String::new(),
     }
 }

@@ -10,7 +10,7 @@ const WARM_UP: usize = 2;
 pub struct Figures {
     pub name: &'static str,
     /// ns an operation, of each round.
-    times: Vec<f64>,
+    pub times: Vec<f64>,
 }
 
 impl Figures {
@@ -22,6 +22,11 @@ impl Figures {
 
     pub fn median(&self) -> f64 {
         self.at_share(0.5)
+    }
+
+    /// The round that beats one of a hundred.
+    pub fn p99(&self) -> f64 {
+        self.at_share(0.99)
     }
 
     fn at_share(&self, share: f64) -> f64 {
@@ -43,13 +48,22 @@ pub struct Measured {
 
 impl Measured {
     pub fn new(scenario: &Scenario, contestants: &[Box<dyn Contestant>]) -> Self {
-        let figures = contestants.iter().map(|c| Figures { name: c.name(), times: vec![] });
+        let names = contestants.iter().map(|c| c.name()).filter(|name| scenario.has(name));
+        let figures = names.map(|name| Figures { name, times: vec![] });
         Self { row: scenario.row, units: scenario.units, figures: figures.collect() }
     }
 
-    /// The best of a contestant, if it took part.
+    /// A contestant's figures, if it took part.
+    pub fn of(&self, name: &str) -> Option<&Figures> {
+        self.figures.iter().find(|figures| figures.name == name)
+    }
+
     pub fn best(&self, name: &str) -> Option<f64> {
-        self.figures.iter().find(|figures| figures.name == name).map(Figures::best)
+        self.of(name).map(Figures::best)
+    }
+
+    fn rounds(&self) -> usize {
+        self.figures.iter().map(Figures::rounds).sum()
     }
 }
 
@@ -61,10 +75,15 @@ pub fn measure(
     seconds: f64,
     measured: &mut Measured,
 ) {
-    for contestant in contestants.iter_mut() {
+    let mut contestants: Vec<_> =
+        contestants.iter_mut().filter(|contestant| scenario.has(contestant.name())).collect();
+    for contestant in &mut contestants {
         contestant.take(scenario);
     }
-    agree(scenario, contestants);
+    // The list is the same in every pass.
+    if measured.rounds() == 0 {
+        agree(scenario, &mut contestants);
+    }
     let start = Instant::now();
     let mut round = 0;
     while round < WARM_UP + LEAST_ROUNDS || start.elapsed().as_secs_f64() < seconds {
@@ -84,11 +103,11 @@ pub fn measure(
 
 /// A benchmark on different work would be worth nothing: all must answer the list alike, and leave
 /// the same behind.
-fn agree(scenario: &Scenario, contestants: &mut [Box<dyn Contestant>]) {
+fn agree(scenario: &Scenario, contestants: &mut [&mut Box<dyn Contestant>]) {
     let Some((first, others)) = contestants.split_first_mut() else {
         return;
     };
-    let requests = [scenario.timed.as_slice(), &scenario.probes()].concat();
+    let requests = scenario.compared();
     let expected = first.answers(&requests);
     assert_eq!(expected.len(), requests.len());
     for other in others {

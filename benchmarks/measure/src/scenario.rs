@@ -12,16 +12,38 @@ pub struct Scenario {
     pub timed: Vec<Request>,
     /// Requests that count as one operation: 2 where a pair is measured.
     pub requests_each: usize,
+    /// So far into the list what is held is compared as well: a list that ends as it began shows
+    /// nothing at its end.
+    pub look_after: Option<usize>,
+    /// The contestants that take part, by name; all of them where none is named.
+    pub only: &'static [&'static str],
 }
 
 impl Scenario {
+    /// All take part, each request counts, and what is held is compared at the end.
+    pub fn of(row: &'static str, units: usize, setup: Vec<Request>, timed: Vec<Request>) -> Self {
+        Self { row, units, setup, timed, requests_each: 1, look_after: None, only: &[] }
+    }
+
+    pub fn has(&self, contestant: &str) -> bool {
+        self.only.is_empty() || self.only.contains(&contestant)
+    }
+
     pub fn operations(&self) -> usize {
         self.timed.len() / self.requests_each
     }
 
-    /// Reads of all that the list may have left, to be asked after it and not timed: most edits
-    /// answer just "done", so only the state shows whether they were done.
-    pub fn probes(&self) -> Vec<Request> {
+    /// The list as it is compared: with probes at its end, and within it where it asks for them.
+    pub fn compared(&self) -> Vec<Request> {
+        let probes = self.probes();
+        let (before, after) = self.timed.split_at(self.look_after.unwrap_or(0));
+        let within = if self.look_after.is_some() { probes.as_slice() } else { &[] };
+        [before, within, after, &probes].concat()
+    }
+
+    /// Reads of all that the list may have left, not timed: most edits answer just "done", so only
+    /// the state shows whether they were done.
+    fn probes(&self) -> Vec<Request> {
         let edits = self.setup.iter().chain(&self.timed);
         let words: BTreeSet<Vec<u32>> = edits.flat_map(probes_of).map(|r| r.words()).collect();
         words.iter().filter_map(|words| Request::decode(words)).collect()

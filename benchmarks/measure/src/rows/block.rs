@@ -24,7 +24,7 @@ pub fn mixed(units: usize) -> Scenario {
         block.transaction();
     }
     block.commit();
-    Scenario { row: "mixed block", units, setup: vec![], timed: block.requests, requests_each: 1 }
+    Scenario::of("mixed block", units, vec![], block.requests)
 }
 
 /// What a transaction has written, to be marked, written again and committed.

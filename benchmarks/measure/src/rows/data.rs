@@ -5,8 +5,10 @@ use crate::scenario::Scenario;
 use histories::rng::Rng;
 use request::{value::CREATION, Delta, Request, Value};
 
+/// The row whose spread is shown too.
+pub const FETCH: &str = "fetch";
 /// Entries of a key: 60 keys in a store of 512 units.
-const ENTRIES: usize = 8;
+pub const ENTRIES: usize = 8;
 /// Deltas above the write in the row that walks over them.
 const DELTAS: usize = 14;
 /// Timed operations of a round: too many for a branch predictor to learn the list.
@@ -15,19 +17,19 @@ const OPERATIONS: usize = 2048;
 const STRETCH: usize = 16;
 
 /// A key and an index at which something is written.
-type Place = (u32, u32);
+pub type Place = (u32, u32);
 
 pub fn all(units: usize) -> Vec<Scenario> {
     vec![fetch(units), rewrite(units), remove_and_write(units), fetch_over_deltas(units)]
 }
 
-fn fetch(units: usize) -> Scenario {
+pub fn fetch(units: usize) -> Scenario {
     let mut rng = Rng::new(1, units as u64);
     let places = places(&mut rng, held(units), ENTRIES);
     let timed = drawn(&mut rng, &places, OPERATIONS, |rng, (key, index)| {
         vec![Request::fetch(key, index + 1 + rng.below(STRETCH) as u32)]
     });
-    Scenario { row: "fetch", units, setup: written(&places), timed, requests_each: 1 }
+    Scenario::of(FETCH, units, written(&places), timed)
 }
 
 /// Over an entry that is there, with a higher incarnation each time.
@@ -39,7 +41,7 @@ fn rewrite(units: usize) -> Scenario {
         incarnation += 1;
         vec![Request::write(key, index, incarnation, value(rng.word()))]
     });
-    Scenario { row: "rewrite", units, setup: written(&places), timed, requests_each: 1 }
+    Scenario::of("rewrite", units, written(&places), timed)
 }
 
 fn remove_and_write(units: usize) -> Scenario {
@@ -48,7 +50,8 @@ fn remove_and_write(units: usize) -> Scenario {
     let timed = drawn(&mut rng, &places, fewer_operations(units), |rng, (key, index)| {
         vec![Request::remove(key, index), Request::write(key, index, 1, value(rng.word()))]
     });
-    Scenario { row: "remove and write", units, setup: written(&places), timed, requests_each: 2 }
+    let pairs = Scenario::of("remove and write", units, written(&places), timed);
+    Scenario { requests_each: 2, ..pairs }
 }
 
 /// Each key has a write at its lowest index and deltas above; a fetch walks over all of them.
@@ -61,7 +64,7 @@ fn fetch_over_deltas(units: usize) -> Scenario {
     let timed = drawn(&mut rng, &highest, OPERATIONS, |_, (key, index)| {
         vec![Request::fetch(key, index + 1)]
     });
-    Scenario { row: "fetch over 14 deltas", units, setup, timed, requests_each: 1 }
+    Scenario::of("fetch over 14 deltas", units, setup, timed)
 }
 
 fn deltas_over_a_write(places: &[Place]) -> Vec<Request> {
@@ -78,14 +81,14 @@ fn deltas_over_a_write(places: &[Place]) -> Vec<Request> {
 }
 
 /// Key after key, the indexes of a key rising.
-fn places(rng: &mut Rng, entries: usize, of_key: usize) -> Vec<Place> {
+pub fn places(rng: &mut Rng, entries: usize, of_key: usize) -> Vec<Place> {
     let keys = spread_keys(rng, entries.div_ceil(of_key));
     (0..entries)
         .map(|n| (keys[n / of_key], (n % of_key * STRETCH + rng.below(STRETCH)) as u32))
         .collect()
 }
 
-fn written(places: &[Place]) -> Vec<Request> {
+pub fn written(places: &[Place]) -> Vec<Request> {
     places.iter().map(|(key, index)| Request::write(*key, *index, 0, value(*index))).collect()
 }
 

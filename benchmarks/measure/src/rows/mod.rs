@@ -2,7 +2,12 @@
 
 mod block;
 mod data;
+mod fill;
 mod group;
+mod scan;
+
+pub use data::FETCH;
+pub use scan::SCAN;
 
 use crate::scenario::Scenario;
 use histories::rng::Rng;
@@ -11,8 +16,10 @@ use request::{value::MODIFICATION, Value};
 /// The rows, with stores of so many units. Those that do not fit in so few are left out.
 pub fn all(units: usize) -> Vec<Scenario> {
     let mut rows = data::all(units);
+    rows.extend(fill::all(units));
     rows.extend(group::all(units));
     rows.push(block::mixed(units));
+    rows.push(scan::scan(units));
     rows
 }
 
