@@ -95,7 +95,7 @@ impl fmt::Display for Refusal {
             Refusal::NoNumberUnderDelta => "a value without a number is under a delta",
             Refusal::CommitRule => "a write's kind does not fit the committed group",
             Refusal::NothingToExchange => "no raw committed value is there to exchange",
-            Refusal::NotMaterializable => "there is no delta to materialize",
+            Refusal::NotMaterializable => "what is materialised is neither resolved nor unresolved",
             Refusal::UnitsExhausted => "the store has too few units",
         })
     }

@@ -41,7 +41,7 @@ const NAMES: [(&str, bool); KINDS] = [
     ("entries of an earlier pass removed", true),
     ("bases set", true),
     ("bases exchanged", true),
-    ("deltas not materialized, as one by one (13)", false),
+    ("deltas not materialised, as one by one (13)", false),
 ];
 
 #[derive(Debug, Clone, Copy, Default)]

@@ -37,8 +37,8 @@ impl Plant {
         ("one-incarnation", Plant::OneIncarnation),
         ("lose-wakeup", Plant::LoseWakeup),
         ("lose-task", Plant::LoseTask),
-        ("finalize-backwards", Plant::FinalizeBackwards),
-        ("skip-materialize", Plant::SkipMaterialize),
+        ("finalise-backwards", Plant::FinalizeBackwards),
+        ("skip-materialise", Plant::SkipMaterialize),
     ];
 
     pub fn name(self) -> &'static str {
