@@ -13,7 +13,7 @@ use Rattle.lists.specs.Lists.{every}
 use Rattle.lists.proofs.Bools.{and-left, and-right}
 use Rattle.types.specs.Value.{valueAt, valueWidth}
 use Rattle.request.specs.Set.{Member}
-use Rattle.store.specs.Slots.{Slot, slotWidth, padded}
+use Rattle.slots.specs.Slots.{Slot, slotWidth, padded}
 use Rattle.model.specs.Rows.{Row}
 use Rattle.model.specs.Group.{Update, Committed}
 use Rattle.model.specs.Model.{updatesHeld}

@@ -12,10 +12,10 @@ use borrow.Author.Tests.{eqb-true, le-leb, eq-eqb, ne-eqb}
 use Rattle.lists.specs.Lists.{every}
 use Rattle.lists.proofs.Bools.{and-both, and-five, and-left, and-right}
 use Rattle.lists.proofs.Lists.{every-imp}
-use Rattle.store.specs.Slots.{Slot, slotWidth, isWhole, before, isBefore, neighbours}
-use Rattle.store.proofs.StoreWords.{whole-length}
-use Rattle.store.proofs.SlotOrder.{Earlier, before-told}
-use Rattle.store.proofs.SlotCompares.{first-four}
+use Rattle.slots.specs.Slots.{Slot, slotWidth, isWhole, before, isBefore, neighbours}
+use Rattle.slots.proofs.StoreWords.{whole-length}
+use Rattle.slots.proofs.SlotOrder.{Earlier, before-told}
+use Rattle.slots.proofs.SlotCompares.{first-four}
 use Rattle.model.specs.Rows.{rising, isAbove}
 use Rattle.model.specs.Fine.{isWord, risingFrom, fineMember, fineUpdate, fineUpdates, fineCommitted, fineGroup}
 use Rattle.model.proofs.Rows.{Over, above-tell, above-above}

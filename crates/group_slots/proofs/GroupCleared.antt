@@ -7,7 +7,7 @@ use Prim.Native.Nat.{ℕ}
 use native.Mathlib.Omega.{arith}
 use lib.ListN.{replicate}
 use Rattle.lists.specs.Lists.{every}
-use Rattle.store.proofs.StoreEncoding.{encode-cleared, held-cleared}
+use Rattle.slots.proofs.StoreEncoding.{encode-cleared, held-cleared}
 use Rattle.model.specs.Rows.{rising}
 use Rattle.model.specs.Model.{updatesHeld}
 use Rattle.model.specs.Fine.{fineUpdates, fineGroup}

@@ -3,14 +3,15 @@
 use mathlib.Core.Path.{_≡_, sym, _∙_, ap}
 use mathlib.Core.Bool.{true}
 use mathlib.Core.List.{List, []}
-use Prim.Native.Nat.{ℕ, _≤_}
+use Prim.Native.Nat.{ℕ, _*_, _≤_}
 use native.Mathlib.Omega.{arith}
-use lib.ListN.{length}
+use lib.ListN.{length, drop}
 use Rattle.lists.specs.Lists.{every}
 use Rattle.lists.proofs.Bools.{and-left, and-right}
-use Rattle.store.specs.Slots.{slotsIn, held, packed, sameWords}
-use Rattle.store.proofs.StoreEncoding.{held-encode, packed-encode, length-encode, encode-encode, held-fits}
-use Rattle.store.proofs.ZeroWords.{same-words, words-same}
+use Rattle.slots.specs.Slots.{held, packed, sameWords}
+use Rattle.types.specs.Units.{unitsIn}
+use Rattle.slots.proofs.StoreEncoding.{held-encode, packed-encode, length-encode, drop-encode-past, encode-encode, held-fits}
+use Rattle.slots.proofs.ZeroWords.{same-words, words-same}
 use Rattle.model.specs.Rows.{rising}
 use Rattle.model.specs.Fine.{fineUpdate, fineUpdates, fineCommitted, fineGroup}
 use Rattle.group_slots.specs.Layout.{Groups, Gathered, groupSlots, gathered, groupsIn, holding, fineGroups, groupValid, heldBy}
@@ -18,8 +19,8 @@ use Rattle.group_slots.proofs.SlotParts.{fine-updates, fine-committed, 
 use Rattle.group_slots.proofs.GatheredGroups.{gathered-groupSlots, gathered-few}
 
 -- A store that is made to hold fine updates and committed values holds them, and is valid.
-module _ (s : List ℕ) (g : Groups) (f : fineGroups g ≡ true) (h : heldBy g ≤ slotsIn (length s)) where
-  few : length (groupSlots g) ≤ slotsIn (length s)
+module _ (s : List ℕ) (g : Groups) (f : fineGroups g ≡ true) (h : heldBy g ≤ unitsIn (length s)) where
+  few : length (groupSlots g) ≤ unitsIn (length s)
   few = rw (length-groupSlots g) h
 
   pub held-holding : held (holding s g) ≡ groupSlots g
@@ -37,6 +38,10 @@ module _ (s : List ℕ) (g : Groups) (f : fineGroups g ≡ true) (h : heldBy g �
   pub length-holding : length (holding s g) ≡ length s
   unfolding holding
   length-holding = length-encode s (groupSlots g) (slots-whole g f) few
+
+  pub past-holding : drop (32 * unitsIn (length s)) (holding s g) ≡ drop (32 * unitsIn (length s)) s
+  unfolding holding
+  past-holding = drop-encode-past s (groupSlots g) (slots-whole g f) few
 
   pub holding-again : (k : Groups) → holding (holding s g) k ≡ holding s k
   unfolding holding
@@ -78,7 +83,7 @@ module _ (s : List ℕ) (v : groupValid s ≡ true) where
   pub committed-every-valid : every fineCommitted (groupsIn s .committed) ≡ true
   committed-every-valid = fine-committed-every (groupsIn s) fine-valid
 
-  pub few-valid : heldBy (groupsIn s) ≤ slotsIn (length s)
+  pub few-valid : heldBy (groupsIn s) ≤ unitsIn (length s)
   unfolding groupsIn heldBy
   few-valid = omega (arith, gathered-few (held s), held-fits s)
 

@@ -14,7 +14,7 @@ use Rattle.lists.specs.Lists.{every, keep}
 use Rattle.lists.proofs.Bools.{and-left, and-right}
 use Rattle.lists.proofs.Lists.{every-imp, keep-all, keep-none}
 use Rattle.request.specs.Set.{Member}
-use Rattle.store.specs.Slots.{Slot}
+use Rattle.slots.specs.Slots.{Slot}
 use Rattle.model.specs.Rows.{find, rowAt}
 use Rattle.model.specs.Group.{Update, firstTagged, memberValue}
 use Rattle.model.specs.Fine.{risingFrom, fineUpdate}

@@ -15,13 +15,13 @@ use Rattle.lists.proofs.Bools.{and-both, and-left, and-right}
 use Rattle.lists.proofs.Lists.{every-append, every-imp, every-kept}
 use Rattle.types.specs.Response.{mostTags}
 use Rattle.request.specs.Set.{Member}
-use Rattle.store.specs.Slots
-use Rattle.store.specs.Slots.{Slot, before, ordered, placeOf, held}
-use Rattle.store.specs.Found.{foundAt, foundOf}
-use Rattle.store.specs.declared.search.Found.{Found}
-use Rattle.store.proofs.SlotOrder.{before-asym, before-irrefl}
-use Rattle.store.proofs.SlotFinds.{place-between, found-there, found-absent}
-use Rattle.store.proofs.ZeroWords.{words-same}
+use Rattle.slots.specs.Slots
+use Rattle.slots.specs.Slots.{Slot, before, ordered, placeOf, held}
+use Rattle.slots.specs.Found.{foundAt, foundOf}
+use Rattle.slots.specs.declared.search.Found.{Found}
+use Rattle.slots.proofs.SlotOrder.{before-asym, before-irrefl}
+use Rattle.slots.proofs.SlotFinds.{place-between, found-there, found-absent}
+use Rattle.slots.proofs.ZeroWords.{words-same}
 use Rattle.model.specs.Rows.{isBelow, isAbove, ofKey, find, rank, rowAt}
 use Rattle.model.specs.Group.{Update, Committed, memberValue, membersIn}
 use Rattle.model.specs.Model.{updatesHeld}

@@ -9,7 +9,7 @@ use native.Mathlib.Omega.{arith}
 use lib.ListN.{length, length-append, length-map}
 use Rattle.lists.specs.Lists.{keep}
 use Rattle.lists.proofs.Lists.{every-imp, every-kept, keep-all, keep-append, keep-none}
-use Rattle.store.specs.Slots.{Slot}
+use Rattle.slots.specs.Slots.{Slot}
 use Rattle.model.specs.Rows.{Row, isBelow, isAt, isAbove, rising, find, put, erase, rank, rowAt}
 use Rattle.model.specs.Group.{Update, Committed}
 use Rattle.model.specs.Model.{updatesHeld}

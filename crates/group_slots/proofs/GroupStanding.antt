@@ -13,12 +13,12 @@ use Rattle.lists.specs.Lists.{every}
 use Rattle.lists.proofs.Bools.{and-left, and-right}
 use Rattle.types.specs.Value.{valueAt, valueWidth}
 use Rattle.request.specs.Set.{Member}
-use Rattle.store.specs.Slots.{Slot, slotWidth, held, slotAt, padded}
-use Rattle.store.specs.Found.{foundOf}
-use Rattle.store.specs.declared.search.Found.the-variants.{There, Absent}
-use Rattle.store.proofs.StoreWords.{slotAt-part, slotAt-word}
-use Rattle.store.proofs.StoreEncoding.{held-fits}
-use Rattle.store.proofs.SlotPlaces.{slotAt-held}
+use Rattle.slots.specs.Slots.{Slot, slotWidth, held, slotAt, padded}
+use Rattle.slots.specs.Found.{foundOf}
+use Rattle.slots.specs.declared.search.Found.the-variants.{There, Absent}
+use Rattle.slots.proofs.StoreWords.{slotAt-part, slotAt-word}
+use Rattle.slots.proofs.StoreEncoding.{held-fits}
+use Rattle.slots.proofs.SlotPlaces.{slotAt-held}
 use Rattle.model.specs.Rows.{Row, find, rank, rowAt}
 use Rattle.model.specs.Group.{Update, firstTagged, memberValue, membersIn}
 use Rattle.model.specs.Model.{updatesHeld}

@@ -12,9 +12,10 @@ use Rattle.lists.specs.Lists.{front}
 use Rattle.number.specs.Words.{AreWords}
 use Rattle.types.specs.Response.{mostTags}
 use Rattle.types.specs.Value.{valueAt, valueOk, isExchanged, isDeletion}
-use Rattle.store.specs.Slots.{Slot, slotWidth, slotsIn, slots, slotAt, isUsed, held, isBefore, joined, allZero, sound}
-use Rattle.store.proofs.StoreWords.{slotAt-part, slotAt-word}
-use Rattle.store.proofs.SlotScans.{joined-next}
+use Rattle.slots.specs.Slots.{Slot, slotWidth, slots, slotAt, isUsed, held, isBefore, joined, allZero, sound}
+use Rattle.types.specs.Units.{unitsIn}
+use Rattle.slots.proofs.StoreWords.{slotAt-part, slotAt-word}
+use Rattle.slots.proofs.SlotScans.{joined-next}
 use Rattle.group_slots.specs.Layout.{groupValid}
 use Rattle.group_slots.specs.Tests.{baseTest, headTest, memberTest, partTest, committedTest, slotTest, isMember, sameUpdate, belongs, follows, firstTest}
 use Rattle.group_slots.proofs.GroupStanding.{slotAt-value}
@@ -248,15 +249,15 @@ first-slots (suc n) s h = go (isUsed (take slotWidth s)) refl
     go false e = rw (e, unused-no-member (take slotWidth s) e)
 
 module _ (s : List ℕ) where
-  pub first-none : (n : ℕ) → n ≡ slotsIn (length s) → n ≡ 0 → true ≡ firstTest (held s)
+  pub first-none : (n : ℕ) → n ≡ unitsIn (length s) → n ≡ 0 → true ≡ firstTest (held s)
   unfolding held slots front firstTest
   first-none n e h =
-      let z : slotsIn (length s) ≡ 0 = sym e ∙ h in
+      let z : unitsIn (length s) ≡ 0 = sym e ∙ h in
       rw z
 
-  pub first-there : (n : ℕ) → n ≡ slotsIn (length s) → (n ≡ 0 → ⊥) → (m : Bool) → m ≡ isMember (slotAt 0 s) → not m ≡ firstTest (held s)
+  pub first-there : (n : ℕ) → n ≡ unitsIn (length s) → (n ≡ 0 → ⊥) → (m : Bool) → m ≡ isMember (slotAt 0 s) → not m ≡ firstTest (held s)
   unfolding held
-  first-there n e h m em = rw em (first-slots (slotsIn (length s)) s (omega arith))
+  first-there n e h m em = rw em (first-slots (unitsIn (length s)) s (omega arith))
 
   -- ---- the whole
 

@@ -14,8 +14,8 @@ use Rattle.lists.proofs.Bools.{and-both, and-four, and-left, and-right, and-thr
 use Rattle.types.specs.Response.{mostTags}
 use Rattle.types.specs.Value.{valueAt, isExchanged, isDeletion}
 use Rattle.request.specs.Set.{Member}
-use Rattle.store.specs.Slots.{Slot, slotWidth, padded, allZero, neighbours}
-use Rattle.store.proofs.ZeroWords.{allZero-replicate}
+use Rattle.slots.specs.Slots.{Slot, slotWidth, padded, allZero, neighbours}
+use Rattle.slots.proofs.ZeroWords.{allZero-replicate}
 use Rattle.model.specs.Rows.{Row}
 use Rattle.model.specs.Group.{Update, Committed}
 use Rattle.model.specs.Fine.{isWord, fineValue, risingFrom, fineMember, fineUpdate, fineCommitted}

@@ -12,11 +12,11 @@ use Rattle.lists.specs.Lists.{every}
 use Rattle.lists.proofs.Bools.{and-both, and-left, and-right, same-test}
 use Rattle.number.specs.Words.{AreWords}
 use Rattle.number.proofs.Digits.{words-take, words-drop}
-use Rattle.store.specs.Slots.{Slot, slotWidth, slots, encode, held, isUsed, before, isBefore, sameWords, ordered, packed, neighbours, isZeroFrom, sound}
-use Rattle.store.proofs.StoreEncoding.{held-whole, held-used, held-slots, encode-zero-from, packed-ordered}
-use Rattle.store.proofs.SlotOrder.{ordered-is-neighbours}
-use Rattle.store.proofs.SlotScans.{sound-zero, sound-every, sound-neighbours}
-use Rattle.store.proofs.ZeroWords.{words-same}
+use Rattle.slots.specs.Slots.{Slot, slotWidth, slots, encode, held, isUsed, before, isBefore, sameWords, ordered, packed, neighbours, isZeroFrom, sound}
+use Rattle.slots.proofs.StoreEncoding.{held-whole, held-used, held-slots, encode-zero-from, packed-ordered}
+use Rattle.slots.proofs.SlotOrder.{ordered-is-neighbours}
+use Rattle.slots.proofs.SlotScans.{sound-zero, sound-every, sound-neighbours}
+use Rattle.slots.proofs.ZeroWords.{words-same}
 use Rattle.model.specs.Fine.{isWord, fineUpdates, fineGroup}
 use Rattle.model.proofs.FineParts.{words-every}
 use Rattle.group_slots.specs.Layout.{groupSlots, gathered, groupsIn, holding, fineGroups, groupValid}

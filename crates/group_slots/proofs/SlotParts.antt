@@ -13,10 +13,10 @@ use Rattle.lists.specs.Lists.{every}
 use Rattle.lists.proofs.Bools.{and-both, and-four, and-left, and-right, and-swap}
 use Rattle.lists.proofs.Lists.{every-append}
 use Rattle.request.specs.Set.{Member}
-use Rattle.store.specs.Slots
-use Rattle.store.specs.Slots.{Slot, slotWidth, isWhole, isUsed, before, isBefore, ordered}
-use Rattle.store.proofs.StoreWords.{padded-whole}
-use Rattle.store.proofs.SlotOrder.{ordered-append}
+use Rattle.slots.specs.Slots
+use Rattle.slots.specs.Slots.{Slot, slotWidth, isWhole, isUsed, before, isBefore, ordered}
+use Rattle.slots.proofs.StoreWords.{padded-whole}
+use Rattle.slots.proofs.SlotOrder.{ordered-append}
 use Rattle.model.specs.Rows.{Row, isAbove, rising}
 use Rattle.model.specs.Group.{Update}
 use Rattle.model.specs.Model.{updatesHeld}

@@ -16,9 +16,9 @@ use Rattle.lists.specs.Lists.{every, keep}
 use Rattle.lists.proofs.Bools.{and-left, and-right, and-swap}
 use Rattle.lists.proofs.Lists.{every-imp, keep-all, keep-none}
 use Rattle.request.specs.Set.{Member}
-use Rattle.store.specs.Slots.{Slot, held, slotAt}
-use Rattle.store.proofs.StoreEncoding.{held-fits}
-use Rattle.store.proofs.SlotPlaces.{slotAt-held}
+use Rattle.slots.specs.Slots.{Slot, held, slotAt}
+use Rattle.slots.proofs.StoreEncoding.{held-fits}
+use Rattle.slots.proofs.SlotPlaces.{slotAt-held}
 use Rattle.model.specs.Rows.{Row, isBelow, isAbove, rising, ofKey, find, rank, rowAt}
 use Rattle.model.specs.Group.{Update, Committed}
 use Rattle.model.specs.Model.{updatesHeld}

@@ -16,8 +16,8 @@ use Rattle.number.specs.Words.{AreWords}
 use Rattle.number.proofs.Digits.{words-take}
 use Rattle.types.specs.Response.{mostTags}
 use Rattle.types.specs.Value.{valueAt, valueOk, isExchanged, isDeletion}
-use Rattle.store.specs.Slots.{Slot, slotWidth, padded, allZero}
-use Rattle.store.proofs.ZeroWords.{zeros-after}
+use Rattle.slots.specs.Slots.{Slot, slotWidth, padded, allZero}
+use Rattle.slots.proofs.ZeroWords.{zeros-after}
 use Rattle.model.specs.Fine.{isWord, fineValue, fineMember, fineCommitted}
 use Rattle.model.proofs.FineParts.{word-tell, words-every}
 use Rattle.group_slots.specs.Layout.{partSlot, memberSlot, committedSlot, memberOf, updateOf, committedOf}

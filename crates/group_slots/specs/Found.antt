@@ -6,8 +6,8 @@ use lib.Dec.{ltb}
 use lib.ListN.{length}
 use Rattle.lists.specs.Lists.{keep}
 use Rattle.request.specs.Set.{Member}
-use Rattle.store.specs.Found.{foundOf}
-use Rattle.store.specs.declared.search.Found.{Found}
+use Rattle.slots.specs.Found.{foundOf}
+use Rattle.slots.specs.declared.search.Found.{Found}
 use Rattle.model.specs.Rows.{isBelow, find, rank}
 use Rattle.model.specs.Group.{Update, memberValue, membersIn}
 use Rattle.model.specs.Model.{updatesHeld}

@@ -17,9 +17,9 @@ use lib.Dec.{eqb}
 use lib.ListN.{length, getD}
 use Rattle.types.specs.Value.{valueAt}
 use Rattle.types.specs.Flag.{flagOf}
-use Rattle.types.specs.Units.{lackOf}
+use Rattle.types.specs.Units.{lackOf, unitsIn}
 use Rattle.request.specs.Set.{Member}
-use Rattle.store.specs.Slots.{Slot, slotsIn, encode, held, padded, sameWords}
+use Rattle.slots.specs.Slots.{Slot, encode, held, padded, sameWords}
 use Rattle.model.specs.Rows.{Row}
 use Rattle.model.specs.Group.{Update, Committed}
 use Rattle.model.specs.Model.{updatesHeld}
@@ -108,7 +108,7 @@ heldBy g = updatesHeld (g .updates) + length (g .committed)
 
 -- "more units after the ticket than the store has": the refusal of what a store like `s` cannot hold, 0 of what it can.
 unfoldable pub lackIn : List ℕ → Groups → ℕ
-lackIn s g = lackOf (heldBy g) (slotsIn (length s))
+lackIn s g = lackOf (heldBy g) (unitsIn (length s))
 
 unfoldable pub fitsIn : List ℕ → Groups → Bool
 fitsIn s g = eqb (lackIn s g) 0

@@ -5,7 +5,7 @@ use lib.Dec.{leb, eqb}
 use lib.ListN.{getD, take, drop}
 use Rattle.types.specs.Response.{mostTags}
 use Rattle.types.specs.Value.{valueAt, valueOk, isExchanged, isDeletion}
-use Rattle.store.specs.Slots.{Slot, isBefore, allZero}
+use Rattle.slots.specs.Slots.{Slot, isBefore, allZero}
 
 -- "base entries are done writes of incarnation 0"
 unfoldable pub baseTest : Slot → Bool

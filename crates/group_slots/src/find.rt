@@ -6,9 +6,9 @@ ghost use Rattle.types.specs.Index.{wordOf};
 ghost use Rattle.group_slots.specs.Layout.{groupValid, groupsIn};
 ghost use Rattle.group_slots.specs.Found.{runOf, memberFound, committedFound};
 use crate::layout;
-use store::search::Found;
-use store::search::find_slot;
-use store::search::lower_bound;
+use slots::search::Found;
+use slots::search::find_slot;
+use slots::search::lower_bound;
 use types::index::ShiftedTxnIndex;
 
 // The slots of an update: where they begin or would, and how many they are, 0 where there is no such update.

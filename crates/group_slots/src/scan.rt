@@ -1,11 +1,11 @@
 // Rule 5 for the group store: one pass over its slots.
 use crate::layout;
-use store::scan::all_zero;
-use store::scan::rest_zero;
-use store::scan::zero_from;
-use store::slot::in_order;
-use store::slot::slot_count;
-use store::slot::word;
+use slots::scan::all_zero;
+use slots::scan::rest_zero;
+use slots::scan::zero_from;
+use slots::slot::in_order;
+use slots::slot::slot_count;
+use slots::slot::word;
 use types::value::ValueWithLayout;
 ghost use mathlib.Core.Path.{_≡_};
 ghost use mathlib.Core.Bool.{true, cond};
@@ -14,13 +14,14 @@ ghost use lib.Dec.{eqb};
 ghost use lib.ListN.{length, getD};
 ghost use Rattle.types.specs.Value.{isExchanged};
 ghost use Rattle.types.specs.ValueWithLayout.{wordsOf};
-ghost use Rattle.store.specs.Slots.{slotsIn, slotAt, held, joined, sound};
+ghost use Rattle.slots.specs.Slots.{slotAt, held, joined, sound};
+ghost use Rattle.types.specs.Units.{unitsIn};
 ghost use Rattle.group_slots.specs.Layout.{groupValid};
 ghost use Rattle.group_slots.specs.Tests.{baseTest, headTest, memberTest, partTest, committedTest, slotTest, isMember, sameUpdate, belongs, follows, firstTest};
 
 // Whether slot i may be at the base: only done, with incarnation 0.
 fn base_ok(s: &[u32], i: usize) -> bool
-    requires inside { ⌜ i < slotsIn (length (now s)) ⌝ }
+    requires inside { ⌜ i < unitsIn (length (now s)) ⌝ }
     ensures base { λ r. ⌜ r ≡ baseTest (slotAt i (now (s .entry))) ⌝ }
 {
     if word(s, i, layout::PLACE) != 0 {
@@ -34,7 +35,7 @@ fn base_ok(s: &[u32], i: usize) -> bool
 
 // Whether the head of slot i is that of a slot of an update.
 fn head_ok(s: &[u32], i: usize) -> bool
-    requires inside { ⌜ i < slotsIn (length (now s)) ⌝ }
+    requires inside { ⌜ i < unitsIn (length (now s)) ⌝ }
     ensures head { λ r. ⌜ r ≡ headTest (slotAt i (now (s .entry))) ⌝ }
 {
     if layout::AFTER_PARTS <= word(s, i, layout::PART) {
@@ -51,7 +52,7 @@ fn head_ok(s: &[u32], i: usize) -> bool
 
 // Whether a member with this value may stand in slot i: above the base it is exchanged.
 fn place_ok(s: &[u32], i: usize, v: ValueWithLayout) -> bool
-    requires inside { ⌜ i < slotsIn (length (now s)) ⌝ }
+    requires inside { ⌜ i < unitsIn (length (now s)) ⌝ }
     ensures place { λ r. ⌜ r ≡ cond (eqb (getD (slotAt i (now (s .entry))) 2 0) 0) true (isExchanged (wordsOf v)) ⌝ }
 {
     if word(s, i, layout::PLACE) == 0 {
@@ -62,7 +63,7 @@ fn place_ok(s: &[u32], i: usize, v: ValueWithLayout) -> bool
 
 // Whether slot i has a member's value after its head.
 fn member_ok(s: &[u32], i: usize) -> bool
-    requires inside { ⌜ i < slotsIn (length (now s)) ⌝ }
+    requires inside { ⌜ i < unitsIn (length (now s)) ⌝ }
     ensures member { λ r. ⌜ r ≡ memberTest (slotAt i (now (s .entry))) ⌝ }
 {
     let v = ValueWithLayout::read(s, 32 * i + layout::VALUE);
@@ -77,7 +78,7 @@ fn member_ok(s: &[u32], i: usize) -> bool
 
 // Whether slot i is the slot of an update itself or of a member.
 fn part_ok(s: &[u32], i: usize) -> bool
-    requires inside { ⌜ i < slotsIn (length (now s)) ⌝ }
+    requires inside { ⌜ i < unitsIn (length (now s)) ⌝ }
     ensures part { λ r. ⌜ r ≡ partTest (slotAt i (now (s .entry))) ⌝ }
 {
     if !head_ok(s, i) {
@@ -91,7 +92,7 @@ fn part_ok(s: &[u32], i: usize) -> bool
 
 // Whether slot i is the slot of a committed value.
 fn committed_ok(s: &[u32], i: usize) -> bool
-    requires inside { ⌜ i < slotsIn (length (now s)) ⌝ }
+    requires inside { ⌜ i < unitsIn (length (now s)) ⌝ }
     ensures committed { λ r. ⌜ r ≡ committedTest (slotAt i (now (s .entry))) ⌝ }
 {
     if layout::AFTER_TAGS <= word(s, i, layout::PLACE) {
@@ -112,7 +113,7 @@ fn committed_ok(s: &[u32], i: usize) -> bool
 
 // Whether slot i by itself is the slot of an update, a member or a committed value.
 fn slot_ok(s: &[u32], i: usize) -> bool
-    requires inside { ⌜ i < slotsIn (length (now s)) ⌝ }
+    requires inside { ⌜ i < unitsIn (length (now s)) ⌝ }
     ensures slot { λ r. ⌜ r ≡ slotTest (slotAt i (now (s .entry))) ⌝ }
 {
     let kind = word(s, i, 0);
@@ -126,7 +127,7 @@ fn slot_ok(s: &[u32], i: usize) -> bool
 }
 
 fn is_member(s: &[u32], i: usize) -> bool
-    requires inside { ⌜ i < slotsIn (length (now s)) ⌝ }
+    requires inside { ⌜ i < unitsIn (length (now s)) ⌝ }
     ensures member { λ r. ⌜ r ≡ isMember (slotAt i (now (s .entry))) ⌝ }
 {
     if word(s, i, 0) != layout::UPDATE {
@@ -137,8 +138,8 @@ fn is_member(s: &[u32], i: usize) -> bool
 
 // Whether slot i is of the update that slot j names: key and index, flag and incarnation.
 fn same_update(s: &[u32], i: usize, j: usize) -> bool
-    requires inside { ⌜ i < slotsIn (length (now s)) ⌝ }
-    requires within { ⌜ j < slotsIn (length (now s)) ⌝ }
+    requires inside { ⌜ i < unitsIn (length (now s)) ⌝ }
+    requires within { ⌜ j < unitsIn (length (now s)) ⌝ }
     ensures same { λ r. ⌜ r ≡ sameUpdate (slotAt i (now (s .entry))) (slotAt j (now (s .entry))) ⌝ }
 {
     if word(s, i, 0) != layout::UPDATE {
@@ -158,7 +159,7 @@ fn same_update(s: &[u32], i: usize, j: usize) -> bool
 
 // Whether slot i stands after the one before it, and is no member of another update.
 fn joins(s: &[u32], i: usize) -> bool
-    requires inside { ⌜ i < slotsIn (length (now s)) ⌝ }
+    requires inside { ⌜ i < unitsIn (length (now s)) ⌝ }
     ensures joined { λ r. ⌜ r ≡ joined follows i (now (s .entry)) ⌝ }
 {
     if i == 0 {

@@ -1,3 +1,5 @@
-pub mod Slots
-pub mod Found
-pub mod Runs
+pub mod Held
+pub mod Valid
+pub mod Edits
+pub mod Scan
+pub mod Payloads

@@ -1,108 +1,144 @@
-// Moving and writing slots.
+// Rows edited.
 ghost use mathlib.Core.Path.{_≡_};
-ghost use mathlib.Core.List.{_++_};
-ghost use Prim.Native.Nat.{_+_, _*_, _≤_, _<_};
-ghost use lib.ListN.{length, set, take, drop};
-ghost use Rattle.store.specs.Slots.{slotWidth, slotsIn, opened, cleared, closed, written};
-ghost use Rattle.store.specs.Runs.{resized};
+ghost use mathlib.Core.Bool.{false};
+ghost use mathlib.Core.List.{map};
+ghost use Prim.Native.Nat.{ℕ, suc, _+_, _*_, _/_, _%_, _<_};
+ghost use lib.ListN.{length, getD, set};
+ghost use Rattle.probe.specs.Cells.{insertAt, eraseAt};
+ghost use Rattle.numbers.specs.Numbers.{Drops, rowRank};
+ghost use Rattle.store.specs.Held.{baseOf, held, noRow, positionOf, contentOf};
+ghost use Rattle.store.specs.Valid.{Valid, Stands, There};
+ghost use Rattle.store.specs.Edits.{Left, marked, freshRow};
+use crate::payloads::drop_payload;
+use crate::payloads::open_payload;
+use crate::payloads::owner_of;
+use crate::read::cell_at;
+use crate::read::number_at;
+use directory::cells::set_word;
+use directory::edits::put_cell;
+use directory::edits::take_cell;
+use moves::copy_within;
 
-// Words of one slice copied into another.
-pub fn copy_words(to: &mut [u32], at: usize, from: &[u32], start: usize, n: usize)
-    requires target { ⌜ at + n ≤ length (now to) ⌝ }
-    requires source { ⌜ start + n ≤ length (now from) ⌝ }
-    ensures copied { λ r.
-        ⌜ now (to .exit) ≡ take at (now (to .entry)) ++ (take n (drop start (now (from .entry))) ++ drop (at + n) (now (to .entry))) ⌝ }
+// The marks of a row, which keep its part. Contents stay where they are, and so does every word but the third of the row's cell.
+pub fn set_marks(
+    s: &mut [u32],
+    n: usize,
+    width: usize,
+    parted: bool,
+    page: usize,
+    cell: usize,
+    marks: u32,
+)
+    requires valid { ⌜ Valid width parted n (now s) ⌝ }
+    requires there { ⌜ There width n (now s) page cell ⌝ }
+    requires small { ⌜ marks < 65536 ⌝ }
+    requires part { ⌜ marks / 256 ≡ (getD (held width n (now s)) (positionOf width n (now s) page cell) noRow) .marks / 256 ⌝ }
+    ensures left { λ r. ⌜ Left width parted n (set (held width n (now (s .entry))) (positionOf width n (now (s .entry)) page cell)
+        (marked marks (getD (held width n (now (s .entry))) (positionOf width n (now (s .entry)) page cell) noRow))) (now (s .entry)) (now (s .exit)) ⌝ }
+    ensures contents { λ r. ⌜ ((i : ℕ) → contentOf width n (now (s .exit)) i ≡ contentOf width n (now (s .entry)) i) ⌝ }
+    ensures rest { λ r. ⌜ ((k : ℕ) → (k ≡ baseOf width n + 97 * page + 1 + 3 * cell + 2 → ⊥) → getD (now (s .exit)) k 0 ≡ getD (now (s .entry)) k 0) ⌝ }
 {
-    let mut j = 0;
-    while j < n {
-        to[at + j] = from[start + j];
-        j += 1;
-    }
+    let a = cell_at(s, n, width, parted, page, cell);
+    let w = s[a + 2] % 65536 + 65536 * marks;
+    set_word(s, 6 + width * n, n, page, cell, w);
 }
 
-// Slot i replaced.
-pub fn write_slot(s: &mut [u32], i: usize, u: &[u32; 32])
-    requires inside { ⌜ i < slotsIn (length (now s)) ⌝ }
-    ensures written { λ r. ⌜ now (s .exit) ≡ written i (now (u .entry)) (now (s .entry)) ⌝ }
+// A row put in at a place, with zeros for its content, but for its part where the store has parts. The answer is where its content begins.
+pub fn insert(
+    s: &mut [u32],
+    n: usize,
+    width: usize,
+    parted: bool,
+    page: usize,
+    cell: usize,
+    place: u32,
+    key: u32,
+    marks: u32,
+) -> usize
+    requires valid { ⌜ Valid width parted n (now s) ⌝ }
+    requires stands { ⌜ Stands width n (now s) page cell ⌝ }
+    requires free { ⌜ length (held width n (now s)) < n ⌝ }
+    requires small { ⌜ marks < 65536 ⌝ }
+    requires whole { ⌜ (parted ≡ false → marks < 256) ⌝ }
+    requires order { ⌜ Drops (map rowRank (insertAt (positionOf width n (now s) page cell) (freshRow width place key marks) (held width n (now s)))) ⌝ }
+    ensures left { λ r. ⌜ Left width parted n (insertAt (positionOf width n (now (s .entry)) page cell) (freshRow width place key marks) (held width n (now (s .entry))))
+        (now (s .entry)) (now (s .exit)) ⌝ }
+    ensures content { λ r. ⌜ r ≡ contentOf width n (now (s .exit)) (positionOf width n (now (s .entry)) page cell) ⌝ }
 {
-    copy_words(s, 32 * i, u, 0, 32);
+    let q = s[0];
+    let at = 6 + width * (q as usize);
+    open_payload(s, at, place, key, marks / 256);
+    put_cell(
+        s,
+        6 + width * n,
+        n,
+        page,
+        cell,
+        place,
+        key,
+        q + 65536 * marks,
+    );
+    at + 2
 }
 
-// Word j of slot i replaced.
-pub fn set_word(s: &mut [u32], i: usize, j: usize, w: u32)
-    requires inside { ⌜ i < slotsIn (length (now s)) ⌝ }
-    requires within { ⌜ j < slotWidth ⌝ }
-    ensures set { λ r. ⌜ now (s .exit) ≡ set (now (s .entry)) (slotWidth * i + j) w ⌝ }
+// A row taken out whose payload is the last one, l.
+fn erase_last(s: &mut [u32], n: usize, width: usize, parted: bool, page: usize, cell: usize, l: u32)
+    requires valid { ⌜ Valid width parted n (now s) ⌝ }
+    requires there { ⌜ There width n (now s) page cell ⌝ }
+    requires last { ⌜ suc l ≡ getD (now s) 0 0 ⌝ }
+    requires own { ⌜ getD (now s) (baseOf width n + 97 * page + 1 + 3 * cell + 2) 0 % 65536 ≡ l ⌝ }
+    ensures left { λ r. ⌜ Left width parted n (eraseAt (positionOf width n (now (s .entry)) page cell) (held width n (now (s .entry)))) (now (s .entry)) (now (s .exit)) ⌝ }
 {
-    s[32 * i + j] = w;
+    drop_payload(s, 6 + width * (l as usize), width, l);
+    take_cell(s, 6 + width * n, n, page, cell);
 }
 
-// Slots from i on, of n in use, moved up by c. Words are moved from the top down, so that none is overwritten before it is read.
-pub fn open_slots(s: &mut [u32], i: usize, n: usize, c: usize)
-    requires order { ⌜ i ≤ n ⌝ }
-    requires room { ⌜ n + c ≤ slotsIn (length (now s)) ⌝ }
-    ensures opened { λ r. ⌜ now (s .exit) ≡ opened c i n (now (s .entry)) ⌝ }
+// A row taken out whose payload is q, where cell j of page `other` names the last payload, l: that one goes to the hole.
+fn erase_moved(
+    s: &mut [u32],
+    n: usize,
+    width: usize,
+    parted: bool,
+    page: usize,
+    cell: usize,
+    other: usize,
+    j: usize,
+    q: u32,
+    l: u32,
+)
+    requires valid { ⌜ Valid width parted n (now s) ⌝ }
+    requires there { ⌜ There width n (now s) page cell ⌝ }
+    requires last { ⌜ suc l ≡ getD (now s) 0 0 ⌝ }
+    requires among { ⌜ There width n (now s) other j ⌝ }
+    requires owns { ⌜ getD (now s) (baseOf width n + 97 * other + 1 + 3 * j + 2) 0 % 65536 ≡ l ⌝ }
+    requires named { ⌜ q ≡ getD (now s) (baseOf width n + 97 * page + 1 + 3 * cell + 2) 0 % 65536 ⌝ }
+    requires less { ⌜ q < l ⌝ }
+    ensures left { λ r. ⌜ Left width parted n (eraseAt (positionOf width n (now (s .entry)) page cell) (held width n (now (s .entry)))) (now (s .entry)) (now (s .exit)) ⌝ }
 {
-    let low = 32 * i;
-    let gap = 32 * c;
-    let mut k = 32 * n;
-    while low < k {
-        k -= 1;
-        s[k + gap] = s[k];
-    }
+    let a = cell_at(s, n, width, parted, other, j);
+    let w = s[a + 2] - (l - q);
+    set_word(s, 6 + width * n, n, other, j, w);
+    let to = 6 + width * (q as usize);
+    let from = 6 + width * (l as usize);
+    copy_within(s, to, from, width);
+    drop_payload(s, from, width, l);
+    take_cell(s, 6 + width * n, n, page, cell);
 }
 
-// The n words from index `at + gap` on moved down to `at`.
-fn move_down(s: &mut [u32], at: usize, gap: usize, n: usize)
-    requires inside { ⌜ at + gap + n ≤ length (now s) ⌝ }
-    ensures moved { λ r.
-        ⌜ now (s .exit) ≡ take at (now (s .entry)) ++ (take n (drop (at + gap) (now (s .entry))) ++ drop (at + n) (now (s .entry))) ⌝ }
+// A row taken out: the last payload goes to the place of its own.
+pub fn erase(s: &mut [u32], n: usize, width: usize, parted: bool, page: usize, cell: usize)
+    requires valid { ⌜ Valid width parted n (now s) ⌝ }
+    requires there { ⌜ There width n (now s) page cell ⌝ }
+    ensures left { λ r. ⌜ Left width parted n (eraseAt (positionOf width n (now (s .entry)) page cell) (held width n (now (s .entry)))) (now (s .entry)) (now (s .exit)) ⌝ }
 {
-    let mut j = 0;
-    while j < n {
-        s[at + j] = s[at + gap + j];
-        j += 1;
-    }
-}
-
-// c slots from i on cleared.
-pub fn clear_slots(s: &mut [u32], i: usize, c: usize)
-    requires inside { ⌜ i + c ≤ slotsIn (length (now s)) ⌝ }
-    ensures cleared { λ r. ⌜ now (s .exit) ≡ cleared c i (now (s .entry)) ⌝ }
-{
-    let at = 32 * i;
-    let n = 32 * c;
-    let mut j = 0;
-    while j < n {
-        s[at + j] = 0;
-        j += 1;
-    }
-}
-
-// Slots from i + c on, of n in use, moved down by c, and the last c of them cleared.
-pub fn close_slots(s: &mut [u32], i: usize, n: usize, c: usize)
-    requires order { ⌜ i + c ≤ n ⌝ }
-    requires inside { ⌜ n ≤ slotsIn (length (now s)) ⌝ }
-    ensures closed { λ r. ⌜ now (s .exit) ≡ closed c i n (now (s .entry)) ⌝ }
-{
-    let left = n - c;
-    move_down(s, 32 * i, 32 * c, 32 * (left - i));
-    clear_slots(s, left, c);
-}
-
-// The slots after the n from i on, of `used` in use, moved so that m have room there.
-pub fn resize(s: &mut [u32], i: usize, n: usize, m: usize, used: usize)
-    requires order { ⌜ i + n ≤ used ⌝ }
-    requires inside { ⌜ used ≤ slotsIn (length (now s)) ⌝ }
-    requires room { ⌜ used + m ≤ slotsIn (length (now s)) + n ⌝ }
-    ensures resized { λ r. ⌜ now (s .exit) ≡ resized i n m used (now (s .entry)) ⌝ }
-{
-    if n == m {
+    let q = number_at(s, n, width, parted, page, cell);
+    let l = s[0] - 1;
+    if q == l {
+        erase_last(s, n, width, parted, page, cell, l);
         return;
     }
-    if n < m {
-        open_slots(s, i + n, used, m - n);
-        return;
-    }
-    close_slots(s, i + m, used, n - m);
+    let p = owner_of(s, n, width, parted, l);
+    let k = p.page;
+    let j = p.cell;
+    erase_moved(s, n, width, parted, page, cell, k, j, q, l);
 }

@@ -15,9 +15,10 @@ use Rattle.types.specs.ValueWithLayout.{valueFrom as structOf, wordsOf}
 use Rattle.types.specs.declared.value.ValueWithLayout.{ValueWithLayout}
 use Rattle.types.proofs.ValueLaws.{read-words}
 use Rattle.request.specs.Set.{Member, membersOf}
-use Rattle.store.specs.Slots.{slotWidth, slotsIn}
-use Rattle.store.specs.declared.search.Found.the-variants.{There, Absent}
-use Rattle.store.proofs.StoreEncoding.{held-fits}
+use Rattle.slots.specs.Slots.{slotWidth}
+use Rattle.types.specs.Units.{unitsIn}
+use Rattle.slots.specs.declared.search.Found.the-variants.{There, Absent}
+use Rattle.slots.proofs.StoreEncoding.{held-fits}
 use Rattle.model.specs.Rows.{find}
 use Rattle.model.specs.Group.{memberValue, membersIn, agrees, allAgree}
 use Rattle.group_slots.specs.Layout.{groupsIn, groupValid}
@@ -43,7 +44,7 @@ module _ (s : List ℕ) (valid : groupValid s ≡ true) (k tag i : ℕ) (e : mem
   there : MemberAt k 0 tag i s
   there = member-at s valid k 0 i tag e
 
-  pub tag-inside : i < slotsIn (length s)
+  pub tag-inside : i < unitsIn (length s)
   tag-inside = omega (arith, there .inside, held-fits s)
 
   value-there : memberValue tag (membersIn (find k 0 (groupsIn s .updates))) ≡ some (there .value)

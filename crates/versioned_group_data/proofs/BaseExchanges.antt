@@ -22,12 +22,13 @@ use Rattle.types.specs.declared.value.ValueWithLayout.{ValueWithLayout}
 use Rattle.types.proofs.ValueLaws.{words-read}
 use Rattle.number.specs.Words.{AreWords}
 use Rattle.request.specs.Set.{Member}
-use Rattle.store.specs.Slots.{Slot, slotWidth, slotsIn, slotAt, held, encode, isWhole, written, padded}
-use Rattle.store.specs.declared.search.Found.{Found}
-use Rattle.store.specs.declared.search.Found.the-variants.{There, Absent}
-use Rattle.store.proofs.StoreEncoding.{slotAt-encode, length-encode}
-use Rattle.store.proofs.SlotEdits.{written-encode}
-use Rattle.store.proofs.StoreWords.{slots-few, slot-inside}
+use Rattle.slots.specs.Slots.{Slot, slotWidth, slotAt, held, encode, isWhole, written, padded}
+use Rattle.types.specs.Units.{unitsIn}
+use Rattle.slots.specs.declared.search.Found.{Found}
+use Rattle.slots.specs.declared.search.Found.the-variants.{There, Absent}
+use Rattle.slots.proofs.StoreEncoding.{slotAt-encode, length-encode}
+use Rattle.slots.proofs.SlotEdits.{written-encode}
+use Rattle.slots.proofs.StoreWords.{slots-few, slot-inside}
 use Rattle.model.specs.Rows.{Row, find, put, rank, rowAt, edited}
 use Rattle.model.specs.Data.{refuse, accept, doneAnswer}
 use Rattle.model.specs.Group.{Update, commits, memberValue, membersIn, replaced, exchangeRaw, exchangeIn, updateTaggedBaseValue}
@@ -36,7 +37,7 @@ use Rattle.model.specs.Fine.{risingFrom}
 use Rattle.model.proofs.FineParts.{value-length}
 use Rattle.types.specs.Flag.{flagOf}
 use Rattle.group_slots.specs.Layout.{Groups, partSlot, memberSlot, updateSlots, committedSlot, groupSlots, groupsIn, holding, groupValid, heldBy, withGroupUpdates, withGroup}
-use Rattle.store.specs.Found.{foundOf}
+use Rattle.slots.specs.Found.{foundOf}
 use Rattle.group_slots.specs.Found.{startOf, slotsTaken, isLower, lowerIn, memberFound, committedFound}
 use Rattle.versioned_group_data.specs.Ruled.{Ruled, committing, withGroupCommits}
 use Rattle.versioned_group_data.specs.Exchange.{withValue}
@@ -164,7 +165,7 @@ module _ (s : List ℕ) (v : groupValid s ≡ true) where
   whole-valid : every isWhole (groupSlots (groupsIn s)) ≡ true
   whole-valid = slots-whole (groupsIn s) (fine-valid s v)
 
-  slots-few-valid : length (groupSlots (groupsIn s)) ≤ slotsIn (length s)
+  slots-few-valid : length (groupSlots (groupsIn s)) ≤ unitsIn (length s)
   slots-few-valid = rw (length-groupSlots (groupsIn s)) (few-valid s v)
 
   -- a slot of the store replaced
@@ -224,7 +225,7 @@ module _ (s : List ℕ) (v : groupValid s ≡ true) where
     base-among : i < length (groupSlots (groupsIn s))
     base-among = omega (arith, at .inside, ap length (held-valid s v))
 
-    pub base-inside : i < slotsIn (length s)
+    pub base-inside : i < unitsIn (length s)
     base-inside = omega (arith, base-among, slots-few-valid)
 
     replaced-slots : set (groupSlots (groupsIn s)) i (slotWith new) ≡ groupSlots withBase
@@ -252,7 +253,7 @@ module _ (s : List ℕ) (v : groupValid s ≡ true) where
         let f : slotsTaken (find key 0 (groupsIn s .updates)) ≡ suc (length (at .update .members)) = rw (at .found) in
         omega (arith, length-replaced tag new (at .update .members))
 
-    withBase-few : length (groupSlots withBase) ≤ slotsIn (length s)
+    withBase-few : length (groupSlots withBase) ≤ unitsIn (length s)
     withBase-few = rw (length-groupSlots withBase, withBase-held) (few-valid s v)
 
     withBase-updates : updatesHeld (withBase .updates) ≡ updatesHeld (groupsIn s .updates)
@@ -294,7 +295,7 @@ module _ (s : List ℕ) (v : groupValid s ≡ true) where
       committed-among : j < length (groupSlots withBase)
       committed-among = rw committed-slots (omega (arith, lower′-length, length-append lower′ (committedSlot (rowAt key tag (value-at .value)) ∷ upper′)))
 
-      pub value-inside : j < slotsIn (length s)
+      pub value-inside : j < unitsIn (length s)
       value-inside = omega (arith, committed-among, withBase-few)
 
       value-slot : slotAt j (holding s withBase) ≡ committedSlot (rowAt key tag (value-at .value))
@@ -316,7 +317,7 @@ module _ (s : List ℕ) (v : groupValid s ≡ true) where
           ∙ set-at lower′ (committedSlot (rowAt key tag (value-at .value))) upper′ (committedSlot (rowAt key tag new)) j lower′-length
           ∙ sym exchanged-slots)
 
-      exchanged-held : heldBy exchangedGroups ≤ slotsIn (length s)
+      exchanged-held : heldBy exchangedGroups ≤ unitsIn (length s)
       unfolding exchangedGroups withBase withGroupUpdates
       exchanged-held =
           let e : heldBy exchangedGroups ≡ heldBy withBase = held-put-over key tag withBase (committed-rising-valid s v) (value-at .value) (value-at .found) new in
@@ -383,17 +384,17 @@ committed-told key tag g f r m h = sym m ∙ h
 
 -- ---- what the code reads and writes
 
-pub slot-room : (i w : ℕ) → i < slotsIn w → (i < 4096) × (slotWidth * i + slotWidth ≤ w)
+pub slot-room : (i w : ℕ) → i < unitsIn w → (i < 4096) × (slotWidth * i + slotWidth ≤ w)
 slot-room i w h = (omega (arith, slots-few w), slot-inside i w h)
 
-pub read-exchanged : (s : List ℕ) (i : ℕ) (x : ValueWithLayout) (b : Bool) → AreWords s → i < slotsIn (length s) → x ≡ structOf (valueAt (slotWidth * i + 7) s) → b ≡ isExchanged (wordsOf x) →
+pub read-exchanged : (s : List ℕ) (i : ℕ) (x : ValueWithLayout) (b : Bool) → AreWords s → i < unitsIn (length s) → x ≡ structOf (valueAt (slotWidth * i + 7) s) → b ≡ isExchanged (wordsOf x) →
     b ≡ isExchanged (valueAt (slotWidth * i + 7) s)
 read-exchanged s i x b w h e f = f ∙ ap isExchanged (ap wordsOf e ∙ words-read s (slotWidth * i + 7) w (omega (arith, slot-inside i (length s) h)))
 
-pub value-copied : (i at : ℕ) (t s after : List ℕ) → i < slotsIn (length s) → after ≡ take (slotWidth * i + 7) s ++ (take valueWidth (drop at t) ++ drop (slotWidth * i + 7 + 7) s) →
+pub value-copied : (i at : ℕ) (t s after : List ℕ) → i < unitsIn (length s) → after ≡ take (slotWidth * i + 7) s ++ (take valueWidth (drop at t) ++ drop (slotWidth * i + 7 + 7) s) →
     after ≡ written i (withValue (valueAt at t) (slotAt i s)) s
 unfolding valueAt
 value-copied i at t s after h e = e ∙ value-written i (take valueWidth (drop at t)) s (slot-inside i (length s) h)
 
-pub inside-as : (i a b : ℕ) → a ≡ b → i < slotsIn b → i < slotsIn a
+pub inside-as : (i a b : ℕ) → a ≡ b → i < unitsIn b → i < unitsIn a
 inside-as i a b e h = rw e h

@@ -9,10 +9,9 @@ use native.Mathlib.Omega.{arith}
 use lib.ListN.{length}
 use Rattle.lists.proofs.Bools.{and-both}
 use Rattle.types.specs.Refusal.{baseDiffers, commitRule}
-use Rattle.types.specs.Units.{lackOf}
+use Rattle.types.specs.Units.{lackOf, unitsIn}
 use Rattle.request.specs.Set.{Member, tagsOf}
 use Rattle.request.specs.declared.set.Set.{Set}
-use Rattle.store.specs.Slots.{slotsIn}
 use Rattle.model.specs.Rows.{find, put, edited}
 use Rattle.model.specs.Rows as Rows
 use Rattle.model.specs.Data.{Ruling, refuse, accept, doneAnswer}
@@ -33,7 +32,7 @@ use Rattle.versioned_group_data.proofs.CommitTried.{tried-none, none-do
 use Rattle.versioned_group_data.proofs.GroupRulings.{lackIn-few, fits-few, ruled-refused, ruled-full, ruled-done, ruled-kept}
 
 -- what was promised of a rule that accepts what fits
-accepted-done : (s : List ℕ) (ruling : Ruling Groups) (answer : List ℕ) (g : Groups) → ruling ≡ accept answer g → heldBy g ≤ slotsIn (length s) → (n : ℕ) (after : List ℕ) → Ruled s ruling n after →
+accepted-done : (s : List ℕ) (ruling : Ruling Groups) (answer : List ℕ) (g : Groups) → ruling ≡ accept answer g → heldBy g ≤ unitsIn (length s) → (n : ℕ) (after : List ℕ) → Ruled s ruling n after →
     (n ≡ 0) × (after ≡ holding s g)
 unfolding resultOf wordsAfter
 accepted-done s ruling answer g e h n after u =
@@ -126,18 +125,18 @@ module _ (s : List ℕ) (v : groupValid s ≡ true) (key p : ℕ) (base : p ≡ 
       tried : Tried more s (some c) r mid
       tried = rw h at t
 
-      between-room : r ≡ 0 → (heldBy between + more ≤ slotsIn (length s)) × (mid ≡ holding s between)
+      between-room : r ≡ 0 → (heldBy between + more ≤ unitsIn (length s)) × (mid ≡ holding s between)
       between-room z = tried-held more s (some c) r mid tried c refl z
 
       lack-is : r ≡ lackIn s new
       unfolding lackBeside lackIn
-      lack-is = tried-lack more s (some c) r mid tried c refl ∙ ap (λ (n : ℕ). lackOf n (slotsIn (length s))) (sym held-new)
+      lack-is = tried-lack more s (some c) r mid tried c refl ∙ ap (λ (n : ℕ). lackOf n (unitsIn (length s))) (sym held-new)
 
       some-refused : (r ≡ 0 → ⊥) → Ruled s ruling r mid
       some-refused z = rw (tried-left more s (some c) r mid tried c refl z) (ruled-full s s ruling doneAnswer new first-some r lack-is z)
 
       module _ (z : r ≡ 0) where
-        room : heldBy between ≤ slotsIn (length s)
+        room : heldBy between ≤ unitsIn (length s)
         room = omega (arith, between-room z .0)
 
         mid-valid : groupValid mid ≡ true
@@ -152,7 +151,7 @@ module _ (s : List ℕ) (v : groupValid s ≡ true) (key p : ℕ) (base : p ≡ 
         some-done : (q n : ℕ) → q ≡ 0 → (after : List ℕ) → Ruled mid (recording key q first (groupsIn mid)) n after → Ruled s ruling n after
         some-done q n same after u =
             let long : length mid ≡ length s = ap length (between-room z .1) ∙ length-holding s between between-fine room in
-            let few : heldBy new ≤ slotsIn (length s) = omega (arith, held-new, between-room z .0) in
+            let few : heldBy new ≤ unitsIn (length s) = omega (arith, held-new, between-room z .0) in
             let done = accepted-done mid (recording key q first (groupsIn mid)) doneAnswer new (recording-is q same) (rw long few) n after u in
             rw (done .0)
             (ruled-done s s ruling doneAnswer new first-some few after

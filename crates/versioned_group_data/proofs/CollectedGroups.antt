@@ -21,8 +21,9 @@ use Rattle.types.specs.Response.{response, answerWidth, mostTags, headOf, commi
 use Rattle.request.specs.Set.{Member, tagsOf, membersOf}
 use Rattle.request.specs.declared.set.Set.{Set}
 use Rattle.request.proofs.SetTags.{AtLeast, Below, Rising}
-use Rattle.store.specs.Slots.{Slot, slotWidth, slotsIn, slots, slotAt, held, placeOf, padded}
-use Rattle.store.proofs.StoreEncoding.{held-fits}
+use Rattle.slots.specs.Slots.{Slot, slotWidth, slots, slotAt, held, placeOf, padded}
+use Rattle.types.specs.Units.{unitsIn}
+use Rattle.slots.proofs.StoreEncoding.{held-fits}
 use Rattle.model.specs.Rows.{Row, ofKey, find, rank, rowAt}
 use Rattle.model.specs.Group.{Update, Committed, setOf, valuesOf, committedAnswer}
 use Rattle.model.specs.Model.{updatesHeld}
@@ -128,7 +129,7 @@ module _ (s : List ℕ) (v : groupValid s ≡ true) (key lo hi : ℕ) (first : l
       ∙ slots-run committedSlot rows nothing s lo
       (λ j h. ap (λ (n : ℕ). slotAt (n + j) s) lo-is ∙ key-slot s v key j nothing h)
 
-  pub key-inside-all : hi ≤ length (held s) → lo + (hi - lo) ≤ slotsIn (length s)
+  pub key-inside-all : hi ≤ length (held s) → lo + (hi - lo) ≤ unitsIn (length s)
   key-inside-all h = omega (arith, key-rises, held-fits s)
 
   pub key-from : every (isFrom 2 0) (slots (hi - lo) (drop (slotWidth * lo) s)) ≡ true
@@ -266,7 +267,7 @@ module _ (s : List ℕ) (v : groupValid s ≡ true) (key p : ℕ) (u : Update) (
       let g : first + j ≡ startOf key p (groupsIn s) + suc j = omega arith in
       ap (λ (m : ℕ). slotAt m s) g ∙ run-member s v key p u e j no-member h)
 
-  pub members-inside : first + n ≤ slotsIn (length s)
+  pub members-inside : first + n ≤ unitsIn (length s)
   unfolding slotsTaken
   members-inside =
       let l : startOf key p (groupsIn s) + suc (length (u .members)) ≤ length (held s) = rw e at (run-inside s v key p) in

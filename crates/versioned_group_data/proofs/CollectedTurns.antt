@@ -14,8 +14,9 @@ use borrow.Author.Tests.{leb-true}
 use Rattle.lists.specs.Lists.{every}
 use Rattle.lists.proofs.Lists.{every-at}
 use Rattle.types.specs.Value.{valueAt, valueWidth}
-use Rattle.store.specs.Slots.{Slot, slotWidth, slotsIn, slots, slotAt}
-use Rattle.store.proofs.StoreWords.{slots-few, slots-inside, slots-at, slots-more, slotAt-word, length-slots}
+use Rattle.slots.specs.Slots.{Slot, slotWidth, slots, slotAt}
+use Rattle.types.specs.Units.{unitsIn}
+use Rattle.slots.proofs.StoreWords.{slots-few, slots-inside, slots-at, slots-more, slotAt-word, length-slots}
 use Rattle.versioned_group_data.specs.Collected.{isFrom, tagBits, slotValues}
 use Rattle.group_slots.proofs.GroupStanding.{slotAt-value}
 
@@ -77,7 +78,7 @@ unfolding slots tagBits
 tags-none j less n k s h = let e : n - k ≡ 0 = omega arith in rw e
 
 -- there are few slots
-pub few : (i n k w : ℕ) → i + n ≤ slotsIn w → k < n → i + k < 4096
+pub few : (i n k w : ℕ) → i + n ≤ unitsIn w → k < n → i + k < 4096
 few i n k w h l = omega (arith, slots-few w)
 
 -- ---- values
@@ -103,7 +104,7 @@ module _ (s : List ℕ) (i : ℕ) where
       ∙ slotValues-append (slots k (drop (slotWidth * i) s)) (slotAt k (drop (slotWidth * i) s) ∷ [])
       ∙ rw (run-value k, append-nil (take valueWidth (drop (slotWidth * (i + k) + 7) s)))
 
-  pub length-values : (k : ℕ) → i + k ≤ slotsIn (length s) → length (slotValues (slots k (drop (slotWidth * i) s))) ≡ valueWidth * k
+  pub length-values : (k : ℕ) → i + k ≤ unitsIn (length s) → length (slotValues (slots k (drop (slotWidth * i) s))) ≡ valueWidth * k
   length-values zero h = unfold slots slotValues in refl
   length-values (suc k) h =
       let e : suc k ≡ k + 1 = omega arith in
@@ -128,7 +129,7 @@ module _ (s : List ℕ) (i : ℕ) (d : List ℕ) (at : ℕ) where
   unfolding valuesIn slots slotValues
   values-none = rw (add-zero at) (sym (take-append-drop at d))
 
-  pub values-again : (k : ℕ) (out : List ℕ) → out ≡ valuesIn k → i + k < slotsIn (length s) → at + valueWidth * k + valueWidth ≤ length d →
+  pub values-again : (k : ℕ) (out : List ℕ) → out ≡ valuesIn k → i + k < unitsIn (length s) → at + valueWidth * k + valueWidth ≤ length d →
       take (at + valueWidth * k) out ++ (take valueWidth (drop (slotWidth * (i + k) + 7) s) ++ drop (at + valueWidth * k + valueWidth) out) ≡ valuesIn (k + 1)
   unfolding valuesIn
   values-again k out e h l =

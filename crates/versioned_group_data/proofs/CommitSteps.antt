@@ -21,9 +21,10 @@ use Rattle.types.specs.ValueWithLayout.{wordsOf}
 use Rattle.types.specs.declared.value.ValueWithLayout.{ValueWithLayout}
 use Rattle.request.specs.Set.{Member, tagsOf}
 use Rattle.request.specs.declared.set.Set.{Set}
-use Rattle.store.specs.Slots.{slotsIn, padded}
-use Rattle.store.specs.declared.search.Found.{Found}
-use Rattle.store.specs.declared.search.Found.the-variants.{There, Absent}
+use Rattle.slots.specs.Slots.{padded}
+use Rattle.types.specs.Units.{unitsIn}
+use Rattle.slots.specs.declared.search.Found.{Found}
+use Rattle.slots.specs.declared.search.Found.the-variants.{There, Absent}
 use Rattle.model.specs.Rows.{find, put, erase, rowAt}
 use Rattle.model.specs.Group.{Committed, isSome}
 use Rattle.model.specs.Fine.{isWord, risingFrom, fineMember, fineMembers, fineUpdates, fineGroup}
@@ -140,7 +141,7 @@ unfolding isWord
 key-word key h = lt-ltb key (2 ^ 32) h
 
 -- A store that holds other committed values, which are fine and fit.
-module _ (s : List ℕ) (v : groupValid s ≡ true) (c : Committed) (fine : fineGroup c ≡ true) (few : heldBy (withGroup (groupsIn s) c) ≤ slotsIn (length s)) (x : List ℕ) (e : x ≡ holding s (withGroup (groupsIn s) c)) where
+module _ (s : List ℕ) (v : groupValid s ≡ true) (c : Committed) (fine : fineGroup c ≡ true) (few : heldBy (withGroup (groupsIn s) c) ≤ unitsIn (length s)) (x : List ℕ) (e : x ≡ holding s (withGroup (groupsIn s) c)) where
   fine-with : fineGroups (withGroup (groupsIn s) c) ≡ true
   unfolding fineGroups withGroup
   fine-with = and-both (fineUpdates (groupsIn s .updates)) (fineGroup c) (updates-valid s v) fine
@@ -185,11 +186,11 @@ module _ (s : List ℕ) (v : groupValid s ≡ true) (key : ℕ) where
       fine-erased : fineGroup (erase key (m .tag) (groupsIn s .committed)) ≡ true
       fine-erased = erase-committed key (m .tag) (groupsIn s .committed) (committed-valid s v)
 
-      few-erased : heldBy (withGroup (groupsIn s) (erase key (m .tag) (groupsIn s .committed))) ≤ slotsIn (length s)
+      few-erased : heldBy (withGroup (groupsIn s) (erase key (m .tag) (groupsIn s .committed))) ≤ unitsIn (length s)
       unfolding withGroup
       few-erased = go (find key (m .tag) (groupsIn s .committed)) refl
         where
-          go : (o : Option (List ℕ)) → find key (m .tag) (groupsIn s .committed) ≡ o → heldBy (withGroup (groupsIn s) (erase key (m .tag) (groupsIn s .committed))) ≤ slotsIn (length s)
+          go : (o : Option (List ℕ)) → find key (m .tag) (groupsIn s .committed) ≡ o → heldBy (withGroup (groupsIn s) (erase key (m .tag) (groupsIn s .committed))) ≤ unitsIn (length s)
           go none f = omega (arith, held-erase-none key (m .tag) (groupsIn s) (committed-rising-valid s v) f, few-valid s v)
           go (some w) f = omega (arith, held-erase-some key (m .tag) (groupsIn s) (committed-rising-valid s v) w f, few-valid s v)
 
@@ -214,7 +215,7 @@ module _ (s : List ℕ) (v : groupValid s ≡ true) (key : ℕ) where
       unfolding commitTo
       other-is = rw (is, d)
 
-      few-rest : heldBy (withGroup (groupsIn s) (commitTo key ms (groupsIn s .committed))) ≤ slotsIn (length s)
+      few-rest : heldBy (withGroup (groupsIn s) (commitTo key ms (groupsIn s .committed))) ≤ unitsIn (length s)
       unfolding heldBy withGroup
       few-rest =
           omega (

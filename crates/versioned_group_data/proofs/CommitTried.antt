@@ -14,10 +14,10 @@ use Rattle.lists.proofs.Bools.{and-left}
 use Rattle.types.specs.Response.{mostTags}
 use Rattle.types.specs.Value.{isCreation, isDeletion}
 use Rattle.types.specs.Refusal.{commitRule}
-use Rattle.types.specs.Units.{lackOf}
+use Rattle.types.specs.Units.{lackOf, unitsIn}
 use Rattle.types.proofs.UnitLaws.{lack-told}
 use Rattle.request.specs.Set.{Member}
-use Rattle.store.specs.Slots.{slotsIn, held}
+use Rattle.slots.specs.Slots.{held}
 use Rattle.model.specs.Group.{Committed, commit}
 use Rattle.model.specs.Model.{updatesHeld}
 use Rattle.model.specs.Fine.{fineMembers, fineMember, risingFrom}
@@ -82,7 +82,7 @@ module _ (s : List ℕ) (v : groupValid s ≡ true) (key : ℕ) (ms : List Membe
         let p : every (passes key (groupsIn s .committed)) ms ≡ false = sym passes-is ∙ not-true (g .passes) e in
         record { result = rw (commit-is, p); words = rw (commit-is, p) }
 
-    module _ (e : not (g .passes) ≡ false) (n m : ℕ) (slots : n ≡ slotsIn (length s)) (used : m ≡ length (held s)) where
+    module _ (e : not (g .passes) ≡ false) (n m : ℕ) (slots : n ≡ unitsIn (length s)) (used : m ≡ length (held s)) where
       all-pass : every (passes key (groupsIn s .committed)) ms ≡ true
       all-pass = sym passes-is ∙ not-false (g .passes) e
 
@@ -127,7 +127,7 @@ module _ (s : List ℕ) (v : groupValid s ≡ true) (key : ℕ) (ms : List Membe
           unfolding committed lackBeside
           tried-fits =
               fits-few s (withGroup (groupsIn s) committed)
-              (omega (arith, lack-told (heldBy (withGroup (groupsIn s) committed) + more) (slotsIn (length s)) none-lacks))
+              (omega (arith, lack-told (heldBy (withGroup (groupsIn s) committed) + more) (unitsIn (length s)) none-lacks))
 
           pub tried-done : (after : List ℕ) → after ≡ holding s (withGroup (groupsIn s) (commitTo key ms (groupsIn s .committed))) →
               Tried more s (commit key ms (groupsIn s .committed)) 0 after
@@ -153,11 +153,11 @@ module _ (more : ℕ) (s : List ℕ) (o : Option Committed) (r : ℕ) (after : L
     unfolding triedWords
     words-are = rw h at (t .words)
 
-    pub tried-held : r ≡ 0 → (heldBy (withGroup (groupsIn s) c) + more ≤ slotsIn (length s)) × (after ≡ holding s (withGroup (groupsIn s) c))
+    pub tried-held : r ≡ 0 → (heldBy (withGroup (groupsIn s) c) + more ≤ unitsIn (length s)) × (after ≡ holding s (withGroup (groupsIn s) c))
     unfolding lackBeside
     tried-held z =
         let l : lackBeside more s c ≡ 0 = sym tried-lack ∙ z in
-        (lack-told (heldBy (withGroup (groupsIn s) c) + more) (slotsIn (length s)) l, rw l at words-are)
+        (lack-told (heldBy (withGroup (groupsIn s) c) + more) (unitsIn (length s)) l, rw l at words-are)
 
     pub tried-left : (r ≡ 0 → ⊥) → after ≡ s
     tried-left z = rw (ne-eqb (lackBeside more s c) 0 (λ e. z (tried-lack ∙ e))) at words-are

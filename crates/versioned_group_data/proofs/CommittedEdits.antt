@@ -7,15 +7,16 @@ use mathlib.Core.Option.{Option, none, some}
 use Prim.Native.Nat.{ℕ, _+_, _≤_, _<_}
 use native.Mathlib.Omega.{arith}
 use lib.ListN.{length, length-append}
-use Rattle.store.specs.Slots.{Slot, slotsIn, encode, held, opened, closed, written}
-use Rattle.store.specs.Runs.{spliced}
-use Rattle.store.specs.declared.search.Found.{Found}
-use Rattle.store.specs.declared.search.Found.the-variants.{There, Absent}
-use Rattle.store.proofs.SlotSplices.{spliced-parts, written-one, encode-rewritten, encode-removed, encode-inserted}
+use Rattle.slots.specs.Slots.{Slot, encode, held, opened, closed, written}
+use Rattle.types.specs.Units.{unitsIn}
+use Rattle.slots.specs.Runs.{spliced}
+use Rattle.slots.specs.declared.search.Found.{Found}
+use Rattle.slots.specs.declared.search.Found.the-variants.{There, Absent}
+use Rattle.slots.proofs.SlotSplices.{spliced-parts, written-one, encode-rewritten, encode-removed, encode-inserted}
 use Rattle.model.specs.Rows.{find, put, erase, rank, rowAt}
 use Rattle.model.specs.Model.{updatesHeld}
 use Rattle.group_slots.specs.Layout.{committedSlot, groupSlots, groupsIn, holding, groupValid, fitsIn, withGroup}
-use Rattle.store.specs.Found.{foundOf}
+use Rattle.slots.specs.Found.{foundOf}
 use Rattle.group_slots.specs.Found.{committedFound}
 use Rattle.group_slots.proofs.SlotParts.{slots-whole, length-groupSlots}
 use Rattle.group_slots.proofs.GroupHolding.{holding-groups, fine-valid, committed-rising-valid, few-valid, length-held-valid}
@@ -33,7 +34,7 @@ module _ (s : List ℕ) (v : groupValid s ≡ true) (key tag : ℕ) where
   unfolding holding
   encode-groups = sym (holding-groups s v)
 
-  few : length (groupSlots (groupsIn s)) ≤ slotsIn (length s)
+  few : length (groupSlots (groupsIn s)) ≤ unitsIn (length s)
   few = rw (length-groupSlots (groupsIn s)) (few-valid s v)
 
   -- other slots in place of what is committed
@@ -83,7 +84,7 @@ module _ (s : List ℕ) (v : groupValid s ≡ true) (key tag : ℕ) where
       there-few : i + 1 ≤ length (groupSlots (groupsIn s))
       there-few = omega (arith, there-here, place-few 1 there-own)
 
-      pub put-room : i < slotsIn (length s)
+      pub put-room : i < unitsIn (length s)
       put-room = omega (arith, there-few, few)
 
       pub put-over : (w : List ℕ) (u : Slot) → u ≡ committedSlot (rowAt key tag w) → (after : List ℕ) → after ≡ written i u s → after ≡ holding s (withGroup (groupsIn s) (put key tag w (groupsIn s .committed)))
@@ -99,7 +100,7 @@ module _ (s : List ℕ) (v : groupValid s ≡ true) (key tag : ℕ) where
         used-slots : n ≡ length (groupSlots (groupsIn s))
         used-slots = count ∙ length-held-valid s v ∙ sym (length-groupSlots (groupsIn s))
 
-        pub erase-room : (i + 1 ≤ n) × (n ≤ slotsIn (length s))
+        pub erase-room : (i + 1 ≤ n) × (n ≤ unitsIn (length s))
         erase-room = (omega (arith, used-slots, there-few), omega (arith, used-slots, few))
 
         pub erase-some : (after : List ℕ) → after ≡ closed 1 i n s → after ≡ holding s (withGroup (groupsIn s) (erase key tag (groupsIn s .committed)))
@@ -136,7 +137,7 @@ module _ (s : List ℕ) (v : groupValid s ≡ true) (key tag : ℕ) where
         used-are : n ≡ length (groupSlots (groupsIn s))
         used-are = count ∙ length-held-valid s v ∙ sym (length-groupSlots (groupsIn s))
 
-        one-free : length (groupSlots (groupsIn s)) < slotsIn (length s)
+        one-free : length (groupSlots (groupsIn s)) < unitsIn (length s)
         unfolding withGroup
         one-free =
             omega (
@@ -146,10 +147,10 @@ module _ (s : List ℕ) (v : groupValid s ≡ true) (key tag : ℕ) where
               fits-held s (withGroup (groupsIn s) (put key tag w (groupsIn s .committed))) fits,
             )
 
-        pub open-room : (i ≤ n) × (n + 1 ≤ slotsIn (length s))
+        pub open-room : (i ≤ n) × (n + 1 ≤ unitsIn (length s))
         open-room = (omega (arith, used-are, absent-few), omega (arith, used-are, one-free))
 
-        pub write-room : (m : ℕ) → m ≡ length s → (i ≤ n) × (n < slotsIn m)
+        pub write-room : (m : ℕ) → m ≡ length s → (i ≤ n) × (n < unitsIn m)
         write-room m e = (open-room .0, rw e (omega (arith, open-room .1)))
 
         pub put-new : (x : List ℕ) → x ≡ opened 1 i n s → (u : Slot) → u ≡ committedSlot (rowAt key tag w) → (after : List ℕ) → after ≡ written i u x →

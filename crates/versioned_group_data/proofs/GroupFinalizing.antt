@@ -10,13 +10,12 @@ use native.Mathlib.Omega.{arith}
 use lib.ListN.{length}
 use Rattle.lists.proofs.Bools.{and-both}
 use Rattle.types.specs.Refusal.{nothingThere, commitRule}
-use Rattle.types.specs.Units.{lackOf}
+use Rattle.types.specs.Units.{lackOf, unitsIn}
 use Rattle.types.specs.Index.{shift, shiftedOf, wordOf}
 use Rattle.types.specs.declared.index.ShiftedTxnIndex.{ShiftedTxnIndex}
 use Rattle.request.specs.Set.{Member}
-use Rattle.store.specs.Slots.{slotsIn}
-use Rattle.store.proofs.StoreEncoding.{held-fits}
-use Rattle.store.proofs.StoreWords.{slots-few}
+use Rattle.slots.proofs.StoreEncoding.{held-fits}
+use Rattle.slots.proofs.StoreWords.{slots-few}
 use Rattle.model.specs.Rows.{find, edited}
 use Rattle.model.specs.Data.{Ruling, refuse, accept}
 use Rattle.model.specs.Group.{Update, Committed, commits, commit, finalizedTo, finalizeGroup, committedAnswer}
@@ -36,7 +35,7 @@ use Rattle.versioned_group_data.proofs.CommitTried.{tried-none, none-do
 -- nothing is recorded beside
 lack-beside : (s : List ℕ) (c : Committed) → lackBeside 0 s c ≡ lackIn s (withGroup (groupsIn s) c)
 unfolding lackBeside lackIn
-lack-beside s c = ap (λ (n : ℕ). lackOf n (slotsIn (length s))) (add-zero (heldBy (withGroup (groupsIn s) c)))
+lack-beside s c = ap (λ (n : ℕ). lackOf n (unitsIn (length s))) (add-zero (heldBy (withGroup (groupsIn s) c)))
 
 final-none : (key p : ℕ) (s : List ℕ) (o : Option Committed) → o ≡ none → ruled (withGroupCommits (groupsIn s) key p) (finalizedTo key o) ≡ refuse commitRule
 unfolding ruled finalizedTo
@@ -67,7 +66,7 @@ module _ (s : List ℕ) (v : groupValid s ≡ true) (key p : ℕ) (k : isWord ke
   rule-is = rw e
 
   -- what is committed, and the store that holds it
-  after-done : (c : Committed) → commit key (u .members) (groupsIn s .committed) ≡ some c → r ≡ 0 → (heldBy (withGroup (groupsIn s) c) ≤ slotsIn (length s)) × (after ≡ holding s (withGroup (groupsIn s) c))
+  after-done : (c : Committed) → commit key (u .members) (groupsIn s .committed) ≡ some c → r ≡ 0 → (heldBy (withGroup (groupsIn s) c) ≤ unitsIn (length s)) × (after ≡ holding s (withGroup (groupsIn s) c))
   after-done c h z =
       let d = tried-held 0 s (commit key (u .members) (groupsIn s .committed)) r after t c h z in
       (omega (arith, d .0), d .1)

@@ -7,26 +7,26 @@ use Prim.Native.Nat.{ℕ, _≤_}
 use lib.ListN.{length}
 use borrow.Author.Tests.{eq-eqb, ne-eqb, eqb-true}
 use Rattle.types.proofs.UnitLaws.{lack-none, lack-told}
-use Rattle.store.specs.Slots.{slotsIn}
+use Rattle.types.specs.Units.{unitsIn}
 use Rattle.model.specs.Data.{Ruling, refuse, accept}
 use Rattle.group_slots.specs.Layout.{Groups, groupsIn, holding, groupValid, heldBy, lackIn, fitsIn}
 use Rattle.versioned_group_data.specs.Ruled.{Ruled, Answered, resultOf, wordsAfter, answerIn, answerAfter}
 use Rattle.group_slots.proofs.GroupHolding.{holding-groups, few-valid}
 
 module _ (s : List ℕ) (g : Groups) where
-  pub lackIn-few : heldBy g ≤ slotsIn (length s) → lackIn s g ≡ 0
+  pub lackIn-few : heldBy g ≤ unitsIn (length s) → lackIn s g ≡ 0
   unfolding lackIn
-  lackIn-few h = lack-none (heldBy g) (slotsIn (length s)) h
+  lackIn-few h = lack-none (heldBy g) (unitsIn (length s)) h
 
-  pub held-lackIn : lackIn s g ≡ 0 → heldBy g ≤ slotsIn (length s)
+  pub held-lackIn : lackIn s g ≡ 0 → heldBy g ≤ unitsIn (length s)
   unfolding lackIn
-  held-lackIn e = lack-told (heldBy g) (slotsIn (length s)) e
+  held-lackIn e = lack-told (heldBy g) (unitsIn (length s)) e
 
-  pub fits-few : heldBy g ≤ slotsIn (length s) → fitsIn s g ≡ true
+  pub fits-few : heldBy g ≤ unitsIn (length s) → fitsIn s g ≡ true
   unfolding fitsIn
   fits-few h = eq-eqb (lackIn s g) 0 (lackIn-few h)
 
-  pub fits-held : fitsIn s g ≡ true → heldBy g ≤ slotsIn (length s)
+  pub fits-held : fitsIn s g ≡ true → heldBy g ≤ unitsIn (length s)
   unfolding fitsIn
   fits-held e = held-lackIn (eqb-true (lackIn s g) 0 e)
 
@@ -57,7 +57,7 @@ module _ (s out : List ℕ) (ruling : Ruling Groups) where
       unfolding resultOf wordsAfter answerAfter
       answered-full = record { result = rw e l; words = rw (e, not-fit); answer = rw (e, not-fit) }
 
-    module _ (h : heldBy g ≤ slotsIn (length s)) (after : List ℕ) (w : after ≡ holding s g) where
+    module _ (h : heldBy g ≤ unitsIn (length s)) (after : List ℕ) (w : after ≡ holding s g) where
       pub ruled-done : Ruled s ruling 0 after
       unfolding resultOf wordsAfter
       ruled-done = record { result = rw (e, lackIn-few s g h); words = rw (e, fits-few s g h) w }

@@ -14,8 +14,8 @@ use Rattle.lists.specs.Lists.{every, front, keep}
 use Rattle.lists.proofs.Bools.{and-both, and-left, and-right}
 use Rattle.lists.proofs.Lists.{every-append, every-keep, every-reverse, front-append, keep-append, keep-reverse}
 use Rattle.request.specs.Set.{Member}
-use Rattle.store.specs.Slots
-use Rattle.store.specs.Slots.{Slot}
+use Rattle.slots.specs.Slots
+use Rattle.slots.specs.Slots.{Slot}
 use Rattle.model.specs.Rows
 use Rattle.model.specs.Rows.{Row, isBelow, isUpTo, downFrom, downAt}
 use Rattle.model.specs.Group.{Update, hasBase}

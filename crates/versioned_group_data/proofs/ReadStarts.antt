@@ -11,7 +11,7 @@ use Rattle.types.specs.Index.{shift, shiftedOf, wordOf}
 use Rattle.types.specs.declared.index.ShiftedTxnIndex.{ShiftedTxnIndex}
 use Rattle.types.specs.declared.output.MVGroupOutput.{MVGroupOutput}
 use Rattle.types.specs.declared.output.MVGroupOutput.the-variants.{Uninitialized}
-use Rattle.store.specs.Slots.{Slot, held, placeOf}
+use Rattle.slots.specs.Slots.{Slot, held, placeOf}
 use Rattle.model.specs.Rows.{downFrom}
 use Rattle.model.specs.Group.{hasBase, latest, sizeOver, allTags}
 use Rattle.model.specs.Group as Rule

@@ -29,9 +29,10 @@ use Rattle.types.specs.declared.output.MVGroupOutput.the-variants.{Versioned, S
 use Rattle.number.specs.Words.{AreWords}
 use Rattle.types.proofs.ValueLaws.{read-words}
 use Rattle.types.proofs.AnswersTold.{index-told, storage-told, length-told, no-bytes-told}
-use Rattle.store.specs.Slots.{Slot, slotWidth, slotsIn, slotAt, held}
-use Rattle.store.proofs.StoreEncoding.{held-fits, held-slots}
-use Rattle.store.proofs.StoreWords.{slots-at, slotAt-word, slot-inside}
+use Rattle.slots.specs.Slots.{Slot, slotWidth, slotAt, held}
+use Rattle.types.specs.Units.{unitsIn}
+use Rattle.slots.proofs.StoreEncoding.{held-fits, held-slots}
+use Rattle.slots.proofs.StoreWords.{slots-at, slotAt-word, slot-inside}
 use Rattle.model.proofs.FineParts.{value-bytes}
 use Rattle.group_slots.proofs.GroupStanding.{slotAt-value}
 use Rattle.versioned_group_data.specs.Output.{foundOutput, latestOutput, sizeOutput}
@@ -112,7 +113,7 @@ module _ (key : ℕ) (us : List Slot) where
   base-zero (suc j) h = absurd (omega arith)
 
 module _ (s : List ℕ) (key j : ℕ) (p : 0 < j) (r : Readable key j (held s)) where
-  pub here-few : j - 1 < slotsIn (length s)
+  pub here-few : j - 1 < unitsIn (length s)
   here-few = omega (arith, r .inside, held-fits s)
 
   here-inside : j - 1 < length (held s)
@@ -288,11 +289,11 @@ slot-bytes s j f = rw (← slotAt-value j s) (bytes (itemIn (slotAt j s)) f)
     bytes : (x : Item) → fineItem x ≡ true → byteLength (x .value) ≤ 1048576
     bytes x h = value-bytes (x .value) (item-value x h)
 
-pub value-inside : (j w : ℕ) → j < slotsIn w → slotWidth * j + 7 + valueWidth ≤ w
+pub value-inside : (j w : ℕ) → j < unitsIn w → slotWidth * j + 7 + valueWidth ≤ w
 value-inside j w h = omega (arith, slot-inside j w h)
 
 -- the words of a value that was read
-module _ (s : List ℕ) (j : ℕ) (ws : AreWords s) (h : j < slotsIn (length s)) (v : ValueWithLayout) (e : v ≡ valueFrom (valueAt (slotWidth * j + 7) s)) where
+module _ (s : List ℕ) (j : ℕ) (ws : AreWords s) (h : j < unitsIn (length s)) (v : ValueWithLayout) (e : v ≡ valueFrom (valueAt (slotWidth * j + 7) s)) where
   pub read-value : wordsOf v ≡ valueAt (slotWidth * j + 7) s
   read-value = read-words s (slotWidth * j + 7) v ws (value-inside j (length s) h) e
 

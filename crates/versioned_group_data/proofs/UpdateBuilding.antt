@@ -14,9 +14,10 @@ use Rattle.types.specs.Value.{valueAt, valueWidth}
 use Rattle.types.proofs.ValueLaws.{length-valueAt}
 use Rattle.request.specs.Set.{tagsOf, membersOf}
 use Rattle.request.proofs.SetTags.{first-none}
-use Rattle.store.specs.Slots.{Slot, slotWidth, slotsIn, isWhole, padded, written}
-use Rattle.store.specs.Runs.{writtenFrom}
-use Rattle.store.proofs.SlotSplices.{writtenFrom-none, written-one, written-next}
+use Rattle.slots.specs.Slots.{Slot, slotWidth, isWhole, padded, written}
+use Rattle.types.specs.Units.{unitsIn}
+use Rattle.slots.specs.Runs.{writtenFrom}
+use Rattle.slots.proofs.SlotSplices.{writtenFrom-none, written-one, written-next}
 use Rattle.model.specs.Rows.{rowAt}
 use Rattle.types.specs.Flag.{flagOf}
 use Rattle.group_slots.specs.Layout.{partSlot, memberSlot, updateSlots}
@@ -99,7 +100,7 @@ module _ (k p i : ℕ) (t : List ℕ) where
   same-rest tag ts from at us s = refl
 
   -- the slots that it writes follow those that are there
-  write-rest : (ts : List ℕ) (from at : ℕ) (us : List Slot) (s : List ℕ) → every isWhole us ≡ true → at ≤ slotsIn (length s) → from + valueWidth * length ts ≤ length t →
+  write-rest : (ts : List ℕ) (from at : ℕ) (us : List Slot) (s : List ℕ) → every isWhole us ≡ true → at ≤ unitsIn (length s) → from + valueWidth * length ts ≤ length t →
       writeRest k p i t (at + length us) ts from (writtenFrom at us s) ≡ writtenFrom at (us ++ map (memberSlot (rowAt k p (doneUpdate i []))) (membersOf ts (drop from t))) s
   unfolding writeRest membersOf
   write-rest [] from at us s w h l = ap (λ (x : List Slot). writtenFrom at x s) (sym (append-nil us))
@@ -117,7 +118,7 @@ module _ (k p i : ℕ) (t : List ℕ) where
       ∙ ap (λ (x : List ℕ). us ++ (m ∷ map (memberSlot (rowAt k p (doneUpdate i []))) (membersOf ts x))) d)
       ∙ same-rest tag ts from at us s
 
-  pub write-all : (ts : List ℕ) (at j : ℕ) (s u : List ℕ) → u ≡ partSlot (rowAt k p (doneUpdate i [])) 0 [] → j ≤ slotsIn (length s) → at + valueWidth * length ts ≤ length t →
+  pub write-all : (ts : List ℕ) (at j : ℕ) (s u : List ℕ) → u ≡ partSlot (rowAt k p (doneUpdate i [])) 0 [] → j ≤ unitsIn (length s) → at + valueWidth * length ts ≤ length t →
       writeRest k p i t (j + 1) ts at (written j u s) ≡ writtenFrom j (updateSlots (rowAt k p (doneUpdate i (membersOf ts (drop at t))))) s
   unfolding updateSlots rowAt doneUpdate every isWhole membersOf partSlot memberSlot
   write-all ts at j s u e h l =
@@ -125,7 +126,7 @@ module _ (k p i : ℕ) (t : List ℕ) where
       ap (writeRest k p i t (j + 1) ts at) (ap (λ (x : List ℕ). written j x s) e ∙ written-one j head s)
       ∙ write-rest ts at j (head ∷ []) s (and-both (isWhole head) true (part-whole (rowAt k p (doneUpdate i [])) 0 [] (omega arith)) refl) h l
 
-  pub write-none : (ts : List ℕ) (from at : ℕ) (s : List ℕ) → at ≤ slotsIn (length s) → from + valueWidth * length ts ≤ length t →
+  pub write-none : (ts : List ℕ) (from at : ℕ) (s : List ℕ) → at ≤ unitsIn (length s) → from + valueWidth * length ts ≤ length t →
       writeRest k p i t at ts from s ≡ writtenFrom at (map (memberSlot (rowAt k p (doneUpdate i []))) (membersOf ts (drop from t))) s
   unfolding every
   write-none ts from at s h l =
@@ -136,7 +137,7 @@ module _ (k p i : ℕ) (t : List ℕ) where
 
   -- the loop's end
   pub members-built : (low high j from : ℕ) (s : List ℕ) (f : ℕ) → f ≡ getD (tagsOf low high) 0 mostTags → mostTags ≤ f → (ts : List ℕ) (at i₀ : ℕ) (s₀ : List ℕ) →
-      i₀ + length ts ≤ slotsIn (length s₀) → at + valueWidth * length ts ≤ length t →
+      i₀ + length ts ≤ unitsIn (length s₀) → at + valueWidth * length ts ≤ length t →
       writeRest k p i t j (tagsOf low high) from s ≡ writeRest k p i t i₀ ts at s₀ →
       s ≡ writtenFrom i₀ (map (memberSlot (rowAt k p (doneUpdate i []))) (membersOf ts (drop at t))) s₀
   members-built low high j from s f e g ts at i₀ s₀ h l inv =
@@ -145,7 +146,7 @@ module _ (k p i : ℕ) (t : List ℕ) where
 
   -- an update's slots: its own, then its members'
   pub update-built : (ts : List ℕ) (at j : ℕ) (s u mid after : List ℕ) → u ≡ partSlot (rowAt k p (doneUpdate i [])) 0 [] → mid ≡ written j u s → length mid ≡ length s →
-      j + 1 ≤ slotsIn (length s) → at + valueWidth * length ts ≤ length t →
+      j + 1 ≤ unitsIn (length s) → at + valueWidth * length ts ≤ length t →
       after ≡ writtenFrom (j + 1) (map (memberSlot (rowAt k p (doneUpdate i []))) (membersOf ts (drop at t))) mid →
       after ≡ writtenFrom j (updateSlots (rowAt k p (doneUpdate i (membersOf ts (drop at t))))) s
   update-built ts at j s u mid after e w same h l f =

@@ -10,14 +10,14 @@ use lib.ListN.{length, drop}
 use lib.Seq.{drop-at}
 use Rattle.lists.specs.Lists.{every}
 use Rattle.types.specs.Refusal.{nothingThere}
-use Rattle.types.specs.Units.{lackOf}
+use Rattle.types.specs.Units.{lackOf, unitsIn}
 use Rattle.request.specs.Set.{Member, tagsOf}
 use Rattle.request.specs.declared.set.Set.{Set}
-use Rattle.store.specs.Slots.{Slot, slotWidth, slotsIn, isWhole, flat, encode, held, closed, slots, padded}
-use Rattle.store.specs.Runs.{spliced, resized, writtenFrom}
-use Rattle.store.proofs.SlotSplices.{spliced-parts, encode-spliced, encode-rewritten, encode-removed}
-use Rattle.store.proofs.StoreWords.{flat-append, slots-flat}
-use Rattle.store.proofs.StoreEncoding.{drop-encode, free}
+use Rattle.slots.specs.Slots.{Slot, slotWidth, isWhole, flat, encode, held, closed, slots, padded}
+use Rattle.slots.specs.Runs.{spliced, resized, writtenFrom}
+use Rattle.slots.proofs.SlotSplices.{spliced-parts, encode-spliced, encode-rewritten, encode-removed}
+use Rattle.slots.proofs.StoreWords.{flat-append, slots-flat}
+use Rattle.slots.proofs.StoreEncoding.{drop-encode, free}
 use Rattle.model.specs.Rows.{find, put, erase, rowAt, edited}
 use Rattle.model.specs.Data.{refuse, accept, doneAnswer}
 use Rattle.model.specs.Group.{Update, markGroup, removeGroup}
@@ -43,7 +43,7 @@ module _ (s : List ℕ) (v : groupValid s ≡ true) (k p : ℕ) where
   abbrev own : Option Update
   own = find k p (g .updates)
 
-  few : length (groupSlots g) ≤ slotsIn (length s)
+  few : length (groupSlots g) ≤ unitsIn (length s)
   few = rw (length-groupSlots g) (few-valid s v)
 
   is-encoded : encode s (groupSlots g) ≡ s
@@ -75,14 +75,14 @@ module _ (s : List ℕ) (v : groupValid s ≡ true) (k p : ℕ) where
     put-held : heldBy new + slotsTaken own ≡ heldBy g + suc (length (u .members))
     put-held = held-put k p g (rising-valid s v) u
 
-    put-few : heldBy g + suc (length (u .members)) ≤ slotsIn (length s) + slotsTaken own → heldBy new ≤ slotsIn (length s)
+    put-few : heldBy g + suc (length (u .members)) ≤ unitsIn (length s) + slotsTaken own → heldBy new ≤ unitsIn (length s)
     put-few h = omega (arith, put-held)
 
     put-holding : holding s new ≡ encode s (lowerSlots k p g ++ (updateSlots (rowAt k p u) ++ upperSlots k p g))
     unfolding holding
     put-holding = ap (encode s) (put-slots k p g u)
 
-    pub put-words : (n : ℕ) → n ≡ heldBy g → heldBy g + suc (length (u .members)) ≤ slotsIn (length s) + slotsTaken own →
+    pub put-words : (n : ℕ) → n ≡ heldBy g → heldBy g + suc (length (u .members)) ≤ unitsIn (length s) + slotsTaken own →
         writtenFrom (startOf k p g) (updateSlots (rowAt k p u)) (resized (startOf k p g) (slotsTaken own) (suc (length (u .members))) n s) ≡ holding s new
     unfolding rowAt
     put-words n e h =
@@ -100,7 +100,7 @@ module _ (s : List ℕ) (v : groupValid s ≡ true) (k p : ℕ) where
     recording-is = refl
 
     -- what recording promises, where the slots suffice and where they do not
-    recorded : (after : List ℕ) → heldBy g + suc (length (u .members)) ≤ slotsIn (length s) + slotsTaken own → after ≡ holding s new → Ruled s (recording k p u g) 0 after
+    recorded : (after : List ℕ) → heldBy g + suc (length (u .members)) ≤ unitsIn (length s) + slotsTaken own → after ≡ holding s new → Ruled s (recording k p u g) 0 after
     recorded after h e = ruled-done s s (recording k p u g) doneAnswer new recording-is (put-few h) after e
 
     not-recorded : (lack : ℕ) → lack ≡ lackIn s new → (lack ≡ 0 → ⊥) → Ruled s (recording k p u g) lack s
@@ -115,7 +115,7 @@ module _ (s : List ℕ) (v : groupValid s ≡ true) (k p : ℕ) where
   unfolding holding
   erased-holding = ap (encode s) (erase-slots k p g (rising-valid s v))
 
-  erased-few : heldBy without ≤ slotsIn (length s)
+  erased-few : heldBy without ≤ unitsIn (length s)
   erased-few = omega (arith, held-erase k p g (rising-valid s v), few-valid s v)
 
   pub erased-words : (n : ℕ) → n ≡ heldBy g → closed (slotsTaken own) (startOf k p g) n s ≡ holding s without
@@ -196,7 +196,7 @@ module _ (s : List ℕ) (v : groupValid s ≡ true) (k p : ℕ) where
 
     marked-done : (after : List ℕ) → after ≡ holding s (new estimated) → Ruled s (editing g k p markGroup) 0 after
     marked-done after e =
-        let few-after : heldBy (new estimated) ≤ slotsIn (length s) = put-few estimated (omega (arith, own-held, few-valid s v)) in
+        let few-after : heldBy (new estimated) ≤ unitsIn (length s) = put-few estimated (omega (arith, own-held, few-valid s v)) in
         ruled-done s s (editing g k p markGroup) doneAnswer (new estimated) marking-is few-after after e
 
   marking-none : own ≡ none → editing g k p markGroup ≡ refuse nothingThere
@@ -222,7 +222,7 @@ module _ (s : List ℕ) (v : groupValid s ≡ true) (k p q : ℕ) (same : q ≡ 
   unfolding runOf
   run-len = ap (λ (r : Run). r .len) found ∙ ap (λ (x : ℕ). slotsTaken (find k x (groupsIn s .updates))) same
 
-  pub run-fits : run .at + run .len ≤ slotsIn (length s)
+  pub run-fits : run .at + run .len ≤ unitsIn (length s)
   run-fits = omega (arith, run-at, run-len, run-inside s v k p, few-valid s v)
 
   pub mark-refused : run .len ≡ 0 → Ruled s (editing (groupsIn s) k p markGroup) nothingThere s
@@ -250,7 +250,7 @@ module _ (s : List ℕ) (v : groupValid s ≡ true) (k p q : ℕ) (same : q ≡ 
     count-is : n ≡ heldBy (groupsIn s)
     count-is = count ∙ held-is s v k p
 
-    pub run-room : (run .at + run .len ≤ n) × (n ≤ slotsIn (length s))
+    pub run-room : (run .at + run .len ≤ n) × (n ≤ unitsIn (length s))
     run-room = (omega (arith, run-at, run-len, count-is, run-inside s v k p), omega (arith, count-is, few-valid s v))
 
     pub remove-done : (after : List ℕ) → after ≡ closed (run .len) (run .at) n s → Ruled s (editing (groupsIn s) k p removeGroup) 0 after
@@ -268,7 +268,7 @@ module _ (s : List ℕ) (v : groupValid s ≡ true) (k p q : ℕ) (same : q ≡ 
       held-after : n - run .len + (1 + l) ≡ heldBy (new s v k p u)
       held-after = omega (arith, run-len, count-is, takes, put-held s v k p u, run-inside s v k p)
 
-      module _ (lack slots : ℕ) (has : slots ≡ slotsIn (length s)) (told : lack ≡ lackOf (n - run .len + (1 + l)) slots) where
+      module _ (lack slots : ℕ) (has : slots ≡ unitsIn (length s)) (told : lack ≡ lackOf (n - run .len + (1 + l)) slots) where
         lack-is : lack ≡ lackIn s (new s v k p u)
         unfolding lackIn
         lack-is = told ∙ ap₂ lackOf held-after has
@@ -277,10 +277,10 @@ module _ (s : List ℕ) (v : groupValid s ≡ true) (k p q : ℕ) (same : q ≡ 
         put-refused h = not-recorded s v k p u lack lack-is h
 
         module _ (h : lack ≡ 0) where
-          pub put-room : n + (1 + l) ≤ slotsIn (length s) + run .len
+          pub put-room : n + (1 + l) ≤ unitsIn (length s) + run .len
           put-room = omega (arith, held-lackIn s (new s v k p u) (sym lack-is ∙ h), held-after, run-len, count-is, run-inside s v k p)
 
-          room : heldBy (groupsIn s) + suc (length (u .members)) ≤ slotsIn (length s) + slotsTaken (find k p (groupsIn s .updates))
+          room : heldBy (groupsIn s) + suc (length (u .members)) ≤ unitsIn (length s) + slotsTaken (find k p (groupsIn s .updates))
           room = omega (arith, put-room, run-len, count-is, takes)
 
           pub put-done : (mid after : List ℕ) → mid ≡ resized (run .at) (run .len) (1 + l) n s → after ≡ writtenFrom (run .at) (updateSlots (rowAt k p u)) mid →

@@ -10,14 +10,15 @@ use lib.Seq.{length-take-le, drop-at, drop-drop, set-append-left}
 use Rattle.lists.specs.Lists.{every}
 use Rattle.lists.proofs.Bools.{and-both, and-left, and-right}
 use Rattle.lists.proofs.Lists.{set-append-add}
-use Rattle.store.specs.Slots.{Slot, slotWidth, slotsIn, isWhole, flat, slots, slotAt, written}
-use Rattle.store.specs.Runs.{writtenFrom}
-use Rattle.store.proofs.StoreWords.{slot-inside, slots-inside, length-flat, length-slots, every-whole, slots-more, length-slotAt}
-use Rattle.store.proofs.SlotSplices.{writtenFrom-none, written-next}
+use Rattle.slots.specs.Slots.{Slot, slotWidth, isWhole, flat, slots, slotAt, written}
+use Rattle.types.specs.Units.{unitsIn}
+use Rattle.slots.specs.Runs.{writtenFrom}
+use Rattle.slots.proofs.StoreWords.{slot-inside, slots-inside, length-flat, length-slots, every-whole, slots-more, length-slotAt}
+use Rattle.slots.proofs.SlotSplices.{writtenFrom-none, written-next}
 use Rattle.versioned_group_data.specs.Members.{marked}
 
 -- a word of a slot replaced
-set-written : (s : List ℕ) (k j w : ℕ) → k < slotsIn (length s) → j < slotWidth → set s (slotWidth * k + j) w ≡ written k (set (slotAt k s) j w) s
+set-written : (s : List ℕ) (k j w : ℕ) → k < unitsIn (length s) → j < slotWidth → set s (slotWidth * k + j) w ≡ written k (set (slotAt k s) j w) s
 unfolding written slotAt
 set-written s k j w h g =
     let inside : slotWidth * k + slotWidth ≤ length s = slot-inside k (length s) h in
@@ -36,7 +37,7 @@ set-written s k j w h g =
     ∙ ap (λ (l : List ℕ). a ++ l) (set-append-left u z j w (omega arith))
 
 -- what stands after slots that are written
-drop-writtenFrom : (i : ℕ) (us : List Slot) (s : List ℕ) → every isWhole us ≡ true → i ≤ slotsIn (length s) →
+drop-writtenFrom : (i : ℕ) (us : List Slot) (s : List ℕ) → every isWhole us ≡ true → i ≤ unitsIn (length s) →
     drop (slotWidth * (i + length us)) (writtenFrom i us s) ≡ drop (slotWidth * (i + length us)) s
 unfolding writtenFrom
 drop-writtenFrom i us s e h =
@@ -73,7 +74,7 @@ pub marked-all : (i j n : ℕ) (s after : List ℕ) → j ≡ n → after ≡ ma
 unfolding markedTo
 marked-all i j n s after e f = f ∙ ap (λ (m : ℕ). markedTo i m s) e
 
-module _ (i j : ℕ) (s : List ℕ) (h : i + j < slotsIn (length s)) where
+module _ (i j : ℕ) (s : List ℕ) (h : i + j < unitsIn (length s)) where
   abbrev before : List Slot
   before = map marked (slots j (drop (slotWidth * i) s))
 

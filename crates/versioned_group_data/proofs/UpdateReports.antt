@@ -11,13 +11,13 @@ use borrow.Author.Tests.{eq-eqb, ne-eqb}
 use Rattle.types.specs.Value.{valueWidth}
 use Rattle.request.specs.Set.{Member, tagsOf, membersOf}
 use Rattle.request.specs.declared.set.Set.{Set}
-use Rattle.store.specs.declared.search.Found.{Found}
-use Rattle.store.specs.declared.search.Found.the-variants.{There, Absent}
+use Rattle.slots.specs.declared.search.Found.{Found}
+use Rattle.slots.specs.declared.search.Found.the-variants.{There, Absent}
 use Rattle.model.specs.Rows.{find}
 use Rattle.model.specs.Group.{isSome, memberValue, membersIn, outside, writeGroup}
 use Rattle.model.specs.Model.{ruled}
 use Rattle.group_slots.specs.Layout.{groupsIn}
-use Rattle.store.specs.Found.{foundOf}
+use Rattle.slots.specs.Found.{foundOf}
 use Rattle.group_slots.specs.Found.{memberFound, startOf, lowerIn}
 use Rattle.versioned_group_data.specs.Ruled.{editing, resultOf, wordsAfter, Ruled}
 use Rattle.versioned_group_data.specs.Members.{doneUpdate, membersAt, recording}

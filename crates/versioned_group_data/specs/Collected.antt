@@ -6,7 +6,7 @@ use lib.Dec.{leb}
 use lib.ListN.{getD}
 use Rattle.types.specs.Value.{valueAt}
 use Rattle.request.specs.declared.set.Set.{Set}
-use Rattle.store.specs.Slots.{Slot}
+use Rattle.slots.specs.Slots.{Slot}
 
 -- Word j of a slot is a tag, plus `less`.
 unfoldable pub isFrom : ℕ → ℕ → Slot → Bool

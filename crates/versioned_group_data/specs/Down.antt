@@ -6,7 +6,7 @@ use lib.Dec.{eqb}
 use lib.ListN.{getD, take}
 use Rattle.lists.specs.Lists.{front, keep}
 use Rattle.types.specs.Value.{valueAt}
-use Rattle.store.specs.Slots.{Slot}
+use Rattle.slots.specs.Slots.{Slot}
 use Rattle.versioned_group_data.specs.Sizes.{Item}
 
 unfoldable pub isUpdateOf : ℕ → Slot → Bool

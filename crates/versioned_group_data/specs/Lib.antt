@@ -1,4 +1,5 @@
 pub mod Ruled
+pub mod Left
 pub mod Output
 pub mod Members
 pub mod Commit

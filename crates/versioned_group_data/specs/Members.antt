@@ -6,7 +6,7 @@ use lib.ListN.{drop}
 use lib.ListN.{set as setAt}
 use Rattle.request.specs.Set.{Member, tagsOf, membersOf}
 use Rattle.request.specs.declared.set.Set.{Set}
-use Rattle.store.specs.Slots.{Slot}
+use Rattle.slots.specs.Slots.{Slot}
 use Rattle.model.specs.Rows.{set}
 use Rattle.model.specs.Data.{Ruling, accept, doneAnswer}
 use Rattle.model.specs.Group.{Update}

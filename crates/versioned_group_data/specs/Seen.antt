@@ -6,7 +6,7 @@ use Prim.Native.Nat.{ℕ, _+_, _≤_}
 use lib.Dec.{eqb}
 use lib.ListN.{length, getD, take}
 use Rattle.lists.specs.Lists.{every, keep}
-use Rattle.store.specs.Slots.{Slot}
+use Rattle.slots.specs.Slots.{Slot}
 use Rattle.versioned_group_data.specs.Sizes.{Item, fineItem, Tally, tally, Bounded}
 use Rattle.versioned_group_data.specs.Down.{isTagged, itemIn, slotsDown, itemsAt}
 use Rattle.versioned_group_data.specs.declared.read.Counts.{Counts}

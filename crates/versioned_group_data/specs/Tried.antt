@@ -7,14 +7,13 @@ use Prim.Native.Nat.{ℕ, _+_}
 use lib.Dec.{eqb}
 use lib.ListN.{length}
 use Rattle.types.specs.Refusal.{commitRule}
-use Rattle.types.specs.Units.{lackOf}
-use Rattle.store.specs.Slots.{slotsIn}
+use Rattle.types.specs.Units.{lackOf, unitsIn}
 use Rattle.model.specs.Group.{Committed}
 use Rattle.group_slots.specs.Layout.{groupsIn, holding, heldBy, withGroup}
 
 -- What lacks for these committed values and for `more` slots beside them.
 unfoldable pub lackBeside : ℕ → List ℕ → Committed → ℕ
-lackBeside more s c = lackOf (heldBy (withGroup (groupsIn s) c) + more) (slotsIn (length s))
+lackBeside more s c = lackOf (heldBy (withGroup (groupsIn s) c) + more) (unitsIn (length s))
 
 -- "commit rule", then "more units after the ticket than the store has"
 unfoldable pub triedResult : ℕ → List ℕ → Option Committed → ℕ

@@ -14,7 +14,7 @@ use crate::collect::collect_values;
 use crate::collect::set_words;
 use group_slots::layout;
 use request::set::Set;
-use store::search::lower_bound;
+use slots::search::lower_bound;
 use types::response::COMMITTED;
 use types::response::SET_WIDTH;
 use types::response::head;

@@ -4,7 +4,8 @@ ghost use mathlib.Core.Bool.{true};
 ghost use Prim.Native.Nat.{_+_, _*_, _≤_, _<_};
 ghost use lib.ListN.{length};
 ghost use Rattle.types.specs.Value.{valueAt, valueWidth, isExchanged};
-ghost use Rattle.store.specs.Slots.{slotWidth, slotsIn, slotAt, written};
+ghost use Rattle.slots.specs.Slots.{slotWidth, slotAt, written};
+ghost use Rattle.types.specs.Units.{unitsIn};
 ghost use Rattle.model.specs.Group as rule;
 ghost use Rattle.group_slots.specs.Layout.{groupValid, groupsIn};
 ghost use Rattle.versioned_group_data.specs.Ruled.{Ruled, committing};
@@ -12,8 +13,8 @@ ghost use Rattle.versioned_group_data.specs.Exchange.{withValue};
 use group_slots::find::find_committed;
 use group_slots::find::find_member;
 use group_slots::layout;
-use store::edit::copy_words;
-use store::search::Found;
+use slots::edit::copy_words;
+use slots::search::Found;
 use types::index::ShiftedTxnIndex;
 use types::refusal;
 use types::value::VALUE_WIDTH;
@@ -21,7 +22,7 @@ use types::value::ValueWithLayout;
 
 // Whether the value of slot i is `Exchanged`.
 fn is_exchanged(s: &[u32], i: usize) -> bool
-    requires inside { ⌜ i < slotsIn (length (now s)) ⌝ }
+    requires inside { ⌜ i < unitsIn (length (now s)) ⌝ }
     ensures exchanged { λ r. ⌜ r ≡ isExchanged (valueAt (slotWidth * i + 7) (now (s .entry))) ⌝ }
 {
     ValueWithLayout::read(s, 32 * i + layout::VALUE).is_exchanged()
@@ -29,7 +30,7 @@ fn is_exchanged(s: &[u32], i: usize) -> bool
 
 // The value of slot i replaced by the one at `at` of a request's words.
 fn write_value(s: &mut [u32], i: usize, t: &[u32], at: usize)
-    requires slot { ⌜ i < slotsIn (length (now s)) ⌝ }
+    requires slot { ⌜ i < unitsIn (length (now s)) ⌝ }
     requires inside { ⌜ at + valueWidth ≤ length (now t) ⌝ }
     ensures written { λ r.
         ⌜ now (s .exit) ≡ written i (withValue (valueAt at (now (t .entry))) (slotAt i (now (s .entry)))) (now (s .entry)) ⌝ }

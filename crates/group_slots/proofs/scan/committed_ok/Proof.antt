@@ -3,7 +3,7 @@
 use native.Mathlib.Omega.{arith}
 use borrow.Author.Needs.{needs}
 use Rattle.types.proofs.ValueLaws.{read-words}
-use Rattle.store.proofs.StoreWords.{slot-inside, part-inside}
+use Rattle.slots.proofs.StoreWords.{slot-inside, part-inside}
 use Rattle.group_slots.proofs.ScanExits.{committed-tag, committed-head, committed-value, committed-deletion, committed-rest}
 use Rattle.group_slots.proofs.scan.committed_ok.Statement.{statement}
 use Rattle.group_slots.proofs.scan.committed_ok.Tie as tie

@@ -1,7 +1,7 @@
 -- `group_slots::scan::joins` meets its contract.
 -- Assumes nothing.
 use borrow.Author.Needs.{needs}
-use Rattle.store.proofs.SlotScans.{joined-first}
+use Rattle.slots.proofs.SlotScans.{joined-first}
 use Rattle.group_slots.proofs.ScanExits.{joins-order, joins-other, joins-same}
 use Rattle.group_slots.proofs.scan.joins.Statement.{statement}
 use Rattle.group_slots.proofs.scan.joins.Tie as tie

@@ -3,7 +3,7 @@
 use native.Mathlib.Omega.{arith}
 use borrow.Author.Needs.{needs}
 use Rattle.types.proofs.ValueLaws.{read-words}
-use Rattle.store.proofs.StoreWords.{slot-inside, part-inside}
+use Rattle.slots.proofs.StoreWords.{slot-inside, part-inside}
 use Rattle.group_slots.proofs.ScanExits.{member-value, member-place, member-rest}
 use Rattle.group_slots.proofs.scan.member_ok.Statement.{statement}
 use Rattle.group_slots.proofs.scan.member_ok.Tie as tie

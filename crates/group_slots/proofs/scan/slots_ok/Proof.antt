@@ -7,9 +7,9 @@ use mathlib.Core.Bool.{true}
 use Prim.Native.Nat.{_≤_, _-_}
 use lib.ListN.{length}
 use borrow.Author.Tests.{not-true, not-false}
-use Rattle.store.specs.Slots.{slotsIn}
-use Rattle.store.proofs.SlotCompares.{word-used, word-unused}
-use Rattle.store.proofs.SlotScans.{
+use Rattle.types.specs.Units.{unitsIn}
+use Rattle.slots.proofs.SlotCompares.{word-used, word-unused}
+use Rattle.slots.proofs.SlotScans.{
   passed,
   passed-none,
   passed-more,
@@ -23,7 +23,7 @@ use Rattle.group_slots.proofs.scan.slots_ok.Statement.{statement}
 use Rattle.group_slots.proofs.scan.slots_ok.Tie as tie
 
 abbrev Inv-loop : tie.InvT-loop
-Inv-loop s n i₀ i = (i ≤ n) × (n ≡ slotsIn (length s)) × (passed slotTest follows i s ≡ true)
+Inv-loop s n i₀ i = (i ≤ n) × (n ≡ unitsIn (length s)) × (passed slotTest follows i s ≡ true)
 
 abbrev μ-loop : tie.MeasureT-loop
 μ-loop s n i₀ i = n - i

@@ -7,7 +7,7 @@ use Prim.Native.Nat.{_+_, _-_, _*_, _≤_}
 use native.Mathlib.Nat.{zero-add, add-zero, sub-zero}
 use denote.Ref.{now}
 use lib.ListN.{drop}
-use Rattle.store.specs.Slots.{slotWidth, slots}
+use Rattle.slots.specs.Slots.{slotWidth, slots}
 use Rattle.versioned_group_data.specs.Collected.{tagBits}
 use Rattle.versioned_group_data.proofs.CollectedTurns.{few, from-word, bit-low, bit-fits, bit-again, tags-none}
 use Rattle.versioned_group_data.proofs.collect.collect_tags.Statement.{statement}

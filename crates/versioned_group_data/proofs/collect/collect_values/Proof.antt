@@ -6,7 +6,7 @@ use mathlib.Core.Path.{_≡_, refl, _∙_}
 use Prim.Native.Nat.{_+_, _-_, _≤_}
 use denote.Ref.{now}
 use lib.ListN.{length}
-use Rattle.store.proofs.StoreWords.{slot-inside}
+use Rattle.slots.proofs.StoreWords.{slot-inside}
 use Rattle.versioned_group_data.proofs.CollectedTurns.{few, valuesIn, values-none, values-again, values-all}
 use Rattle.versioned_group_data.proofs.collect.collect_values.Statement.{statement}
 use Rattle.versioned_group_data.proofs.collect.collect_values.Tie as tie

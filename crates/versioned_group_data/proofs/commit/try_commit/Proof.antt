@@ -5,11 +5,11 @@ use native.Mathlib.Omega.{arith}
 use borrow.Author.Needs.{needs}
 use denote.Ref.{now}
 use lib.ListN.{length}
-use Rattle.store.specs.Slots.{slotsIn}
+use Rattle.types.specs.Units.{unitsIn}
 use Rattle.versioned_group_data.proofs.CommitTried.{growth-small, deletions-few, tried-refused, tried-full, tried-fits, tried-done}
 use Rattle.group_slots.proofs.GroupHolding.{packed-valid}
-use Rattle.store.proofs.StoreEncoding.{held-fits}
-use Rattle.store.proofs.StoreWords.{slots-few}
+use Rattle.slots.proofs.StoreEncoding.{held-fits}
+use Rattle.slots.proofs.StoreWords.{slots-few}
 use Rattle.versioned_group_data.proofs.commit.try_commit.Statement.{statement}
 use Rattle.versioned_group_data.proofs.commit.try_commit.Tie as tie
 
@@ -43,7 +43,7 @@ sub-held : tie.Need-sub-held
 sub-held c =
     let at-start = c .before .before .before .before .before .before .before .before .before .before in
     let at-growth-of = c .before .before .before .before .before .before in
-    deletions-few _ (at-start .pre .0) _ _ (at-start .pre .1 .1 .0) (at-start .args .more) _ (at-growth-of .growth-of .ensures) (c .before .before .before .before .if1 .left) (slotsIn (length (now (at-start .args .s)))) _ refl (c .before .before .used .ensures)
+    deletions-few _ (at-start .pre .0) _ _ (at-start .pre .1 .1 .0) (at-start .args .more) _ (at-growth-of .growth-of .ensures) (c .before .before .before .before .if1 .left) (unitsIn (length (now (at-start .args .s)))) _ refl (c .before .before .used .ensures)
 
 slot-count-requires : tie.Need-slot-count-requires
 slot-count-requires c κs = search needs

@@ -4,7 +4,7 @@ use borrow.Author.Needs.{needs}
 use native.Mathlib.Omega.{arith}
 use mathlib.Core.Path.{_≡_, refl}
 use mathlib.Core.Bool.{_||_}
-use Rattle.store.specs.Slots.{held}
+use Rattle.slots.specs.Slots.{held}
 use Rattle.versioned_group_data.specs.Sizes.{firstOf}
 use Rattle.versioned_group_data.specs.Down.{itemsAt}
 use Rattle.versioned_group_data.specs.Seen.{meetsBase, Readable}

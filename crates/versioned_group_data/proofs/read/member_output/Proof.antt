@@ -2,7 +2,7 @@
 -- Assumes nothing.
 use native.Mathlib.Omega.{arith}
 use borrow.Author.Needs.{needs}
-use Rattle.store.proofs.StoreWords.{slot-inside}
+use Rattle.slots.proofs.StoreWords.{slot-inside}
 use Rattle.versioned_group_data.proofs.ReadTurns.{value-inside, output-estimate, output-value}
 use Rattle.versioned_group_data.proofs.read.member_output.Statement.{statement}
 use Rattle.versioned_group_data.proofs.read.member_output.Tie as tie

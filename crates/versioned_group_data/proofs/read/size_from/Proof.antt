@@ -6,7 +6,7 @@ use mathlib.Core.Path.{_≡_, refl}
 use mathlib.Core.Bool.{_||_}
 use lib.ListN.{replicate}
 use Rattle.types.specs.Response.{mostTags}
-use Rattle.store.specs.Slots.{held}
+use Rattle.slots.specs.Slots.{held}
 use Rattle.versioned_group_data.specs.Sizes.{start, tally, Bounded}
 use Rattle.versioned_group_data.specs.Down.{itemsAt}
 use Rattle.versioned_group_data.specs.Seen.{meetsBase, Readable, tallyOf}

@@ -6,7 +6,7 @@ use mathlib.Core.Path.{_≡_, refl}
 use Prim.Native.Nat.{_-_, _≤_}
 use denote.Ref.{now}
 use lib.ListN.{length}
-use Rattle.store.specs.Slots.{slotsIn}
+use Rattle.types.specs.Units.{unitsIn}
 use Rattle.versioned_group_data.proofs.UpdateMarking.{markedTo, marked-none, marked-all, mark-turn}
 use Rattle.versioned_group_data.proofs.update.mark_slots.Statement.{statement}
 use Rattle.versioned_group_data.proofs.update.mark_slots.Tie as tie
@@ -21,14 +21,14 @@ loop-holds : tie.Need-loop-holds Inv-loop μ-loop
 loop-holds c = (omega arith, marked-none _ _, refl)
 
 add-set-word : tie.Need-add-set-word Inv-loop μ-loop
-unfolding slotsIn
+unfolding unitsIn
 add-set-word c = search needs
 
 word-requires : tie.Need-word-requires Inv-loop μ-loop
 word-requires c κs = search needs
 
 set-word-requires : tie.Need-set-word-requires Inv-loop μ-loop
-unfolding slotsIn
+unfolding unitsIn
 set-word-requires c κs = search needs
 
 add-j : tie.Need-add-j Inv-loop μ-loop

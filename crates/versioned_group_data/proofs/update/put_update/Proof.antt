@@ -4,7 +4,7 @@ use mathlib.Core.Path.{refl}
 use native.Mathlib.Omega.{arith}
 use borrow.Author.Needs.{needs}
 use denote.Ref.{now}
-use Rattle.store.specs.Slots.{slotsIn}
+use Rattle.types.specs.Units.{unitsIn}
 use Rattle.group_slots.proofs.GroupHolding.{packed-valid}
 use Rattle.versioned_group_data.proofs.UpdateEdits.{run-room, put-refused, put-room, put-done}
 use Rattle.versioned_group_data.proofs.update.put_update.Statement.{statement}
@@ -29,7 +29,7 @@ sub-lack-of c =
     omega (arith, room .0)
 
 add-lack-of : tie.Need-add-lack-of
-unfolding slotsIn
+unfolding unitsIn
 add-lack-of c =
     let at-start = c .before .before .before .before .before .before .before .before in
     let room = run-room _ (at-start .pre .0) _ _ _ refl _ (c .before .before .before .before .find-update .ensures) _ (c .before .before .used .ensures) in
@@ -61,7 +61,7 @@ resize-requires c κs =
     (omega (arith, room .0), (room .1, omega (arith, put-room _ (at-start .pre .0) _ _ _ refl _ (at-find-update .find-update .ensures) _ (at-used .used .ensures) (at-start .args .incarnation) (at-start .args .set) (at-start .args .at) (now (at-start .args .t)) _ (at-len .len .ensures) _ _ (c .before .before .before .slot-count .ensures) (c .before .before .lack-of .ensures) (c .before .if1 .left))))
 
 write-update-requires : tie.Need-write-update-requires
-unfolding slotsIn
+unfolding unitsIn
 write-update-requires c κs =
     let at-start = c .before .before .before .before .before .before .before .before .before .before .before .before .before .before .before .before .before in
     let at-find-update = c .before .before .before .before .before .before .before .before .before .before .before .before .before in

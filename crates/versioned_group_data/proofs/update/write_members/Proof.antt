@@ -8,7 +8,7 @@ use lib.ListN.{length}
 use Rattle.types.specs.Index.{wordOf}
 use Rattle.types.specs.Value.{valueWidth}
 use Rattle.request.specs.Set.{tagsOf}
-use Rattle.store.specs.Slots.{slotsIn}
+use Rattle.types.specs.Units.{unitsIn}
 use Rattle.versioned_group_data.specs.Members.{membersAt}
 use Rattle.versioned_group_data.proofs.UpdateBuilding.{first-some, first-again, rest-fewer, writeRest, write-turn, members-built}
 use Rattle.versioned_group_data.proofs.update.write_members.Statement.{statement}
@@ -18,7 +18,7 @@ abbrev Inv-loop : tie.InvT-loop
 Inv-loop s₀ i key place incarnation t at rest₀ j₀ from₀ s rest j from =
     (writeRest key (wordOf place) incarnation t j (tagsOf (rest .low) (rest .high)) from s
     ≡ writeRest key (wordOf place) incarnation t j₀ (tagsOf (rest₀ .low) (rest₀ .high)) from₀ s₀)
-    × (j + length (tagsOf (rest .low) (rest .high)) ≤ slotsIn (length s₀))
+    × (j + length (tagsOf (rest .low) (rest .high)) ≤ unitsIn (length s₀))
     × (from + valueWidth * length (tagsOf (rest .low) (rest .high)) ≤ length t)
     × (length s ≡ length s₀)
 
@@ -41,7 +41,7 @@ new-member-requires c κs = (
 )
 
 write-slot-requires : tie.Need-write-slot-requires Inv-loop μ-loop
-unfolding slotsIn
+unfolding unitsIn
 write-slot-requires c κs =
     let at-loop = c .before .before .before .before .before .before in
     omega (arith, first-some (tagsOf (at-loop .loop .rest .low) (at-loop .loop .rest .high)) _ (c .before .before .before .before .before .first .ensures) (c .before .before .before .before .if1 .taken), at-loop .loop .inv .1, at-loop .loop .inv .3)
@@ -50,7 +50,7 @@ rest-requires : tie.Need-rest-requires Inv-loop μ-loop
 rest-requires c κs = search needs
 
 add-j : tie.Need-add-j Inv-loop μ-loop
-unfolding slotsIn
+unfolding unitsIn
 add-j c =
     let at-loop = c .before .before .before .before .before .before .before .before .before .before in
     record { fits = omega (arith, at-loop .loop .inv .1) }

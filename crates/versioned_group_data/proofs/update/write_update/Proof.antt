@@ -2,7 +2,7 @@
 -- Assumes nothing.
 use borrow.Author.Needs.{needs}
 use native.Mathlib.Omega.{arith}
-use Rattle.store.specs.Slots.{slotsIn}
+use Rattle.types.specs.Units.{unitsIn}
 use Rattle.versioned_group_data.specs.Members.{membersAt}
 use Rattle.versioned_group_data.proofs.UpdateBuilding.{update-built}
 use Rattle.versioned_group_data.proofs.update.write_update.Statement.{statement}
@@ -15,11 +15,11 @@ write-slot-requires : tie.Need-write-slot-requires
 write-slot-requires c κs = search needs
 
 add-write-members : tie.Need-add-write-members
-unfolding slotsIn
+unfolding unitsIn
 add-write-members c = search needs
 
 write-members-requires : tie.Need-write-members-requires
-unfolding slotsIn
+unfolding unitsIn
 write-members-requires c κs =
     let at-start = c .before .before .before .before .before .before .before .before .before in
     (omega arith, at-start .pre .1)

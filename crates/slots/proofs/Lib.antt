@@ -1,0 +1,12 @@
+pub mod ZeroWords
+pub mod StoreWords
+pub mod StoreEncoding
+pub mod SlotMoves
+pub mod SlotSplices
+pub mod SlotEdits
+pub mod SlotOrder
+pub mod SlotPlaces
+pub mod SlotCompares
+pub mod SlotScans
+pub mod PackedEdits
+pub mod SlotFinds
