@@ -1,0 +1,12 @@
+pub mod Frames
+pub mod Finding
+pub mod Editing
+pub mod Directories
+pub mod Positions
+pub mod CellsLeft
+pub mod Shifting
+pub mod Splitting
+pub mod Wides
+pub mod Prefixes
+pub mod Rooms
+pub mod CellEdits
