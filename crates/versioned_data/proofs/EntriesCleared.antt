@@ -1,29 +1,29 @@
 -- A cleared store is valid and holds nothing.
 -- Assumes nothing.
-use mathlib.Core.Path.{_≡_, refl, sym, _∙_, ap}
-use mathlib.Core.Bool.{true}
-use mathlib.Core.List.{[], map}
+use mathlib.Core.Path.{_≡_, refl, _∙_, ap}
+use mathlib.Core.Bool.{true, false}
+use mathlib.Core.List.{List, [], map, reverse}
 use Prim.Native.Nat.{ℕ}
-use native.Mathlib.Omega.{arith}
 use lib.ListN.{replicate}
 use Rattle.lists.specs.Lists.{every}
-use Rattle.store.proofs.StoreEncoding.{encode-cleared, held-cleared}
-use Rattle.model.specs.Rows.{rising}
-use Rattle.model.specs.Fine.{fineEntries}
-use Rattle.versioned_data.specs.Layout.{entryOf, entriesIn, holding, dataValid}
-use Rattle.versioned_data.proofs.EntriesHeld.{valid-holding}
+use Rattle.lists.proofs.Bools.{and-both}
+use Rattle.store.specs.Scan.{isStore}
+use Rattle.store.proofs.ScanStores.{zeros-empty}
+use Rattle.versioned_data.specs.Layout.{StoreRow, payloadWidth, entryOf, rowsIn, entriesIn, rowOk, dataValid}
 
-holding-cleared : (n : ℕ) → holding (replicate n 0) [] ≡ replicate n 0
-unfolding holding
-holding-cleared n = encode-cleared n
-
-none-fine : fineEntries [] ≡ true
-unfolding fineEntries rising every
-none-fine = refl
+rows-cleared : (n : ℕ) → rowsIn (replicate n 0) ≡ []
+unfolding rowsIn
+rows-cleared n = zeros-empty 22 false n .1
 
 pub entries-cleared : (n : ℕ) → entriesIn (replicate n 0) ≡ []
 unfolding entriesIn
-entries-cleared n = ap (map entryOf) (held-cleared n)
+entries-cleared n = ap (λ (l : List StoreRow). map entryOf (reverse l)) (rows-cleared n)
+
+none-ok : every rowOk [] ≡ true
+unfolding every
+none-ok = refl
 
 pub valid-cleared : (n : ℕ) → dataValid (replicate n 0) ≡ true
-valid-cleared n = ap dataValid (sym (holding-cleared n)) ∙ valid-holding (replicate n 0) [] none-fine (omega arith)
+unfolding dataValid
+valid-cleared n =
+    and-both (isStore payloadWidth false (replicate n 0)) (every rowOk (rowsIn (replicate n 0))) (zeros-empty 22 false n .0) (ap (every rowOk) (rows-cleared n) ∙ none-ok)

@@ -1,124 +1,144 @@
--- A valid store and the entries that it holds are one; positions in its words are positions among the entries.
+-- A valid store, the rows that it holds and their entries.
 -- Assumes nothing.
 use mathlib.Core.Path.{_≡_, refl, sym, _∙_, ap}
-use mathlib.Core.Bool.{Bool, true, false}
-use mathlib.Core.List.{List, [], _∷_, map}
-use Prim.Native.Nat.{ℕ, _-_, _≤_}
-use lib.ListN.{length, take, length-map}
-use Rattle.lists.specs.Lists.{every, front, keep}
-use Rattle.lists.proofs.Bools.{and-left, and-right}
-use Rattle.lists.proofs.Lists.{every-imp, keep-none}
-use Rattle.store.specs.Slots.{slotsIn, held, isWhole, before, packed, placeOf, sameWords}
-use Rattle.store.proofs.StoreEncoding.{held-encode, packed-encode, length-encode, encode-encode, held-fits}
-use Rattle.store.proofs.ZeroWords.{same-words, words-same}
-use Rattle.model.specs.Rows.{Row, rising, isBelow, isAbove, rank}
-use Rattle.model.specs.Data.{Entry}
+use mathlib.Core.Bool.{true, false}
+use mathlib.Core.List.{List, [], _∷_, map, reverse}
+use Prim.Native.Nat.{ℕ, _+_, _-_, _*_, _≤_, _<_}
+use native.Mathlib.Omega.{arith}
+use native.Mathlib.Decide.{ℕ-discrete}
+use lib.ListN.{length, getD, drop, length-drop}
+use lib.Seq.{ext-getD, getD-drop}
+use borrow.Author.Tests.{eq-eqb, ne-eqb}
+use Rattle.lists.specs.Lists.{every}
+use Rattle.lists.proofs.Bools.{and-both, and-left, and-right}
+use Rattle.lists.proofs.Lists.{every-imp}
+use Rattle.types.specs.Units.{unitsIn}
+use Rattle.numbers.specs.Numbers as Numbers
+use Rattle.numbers.specs.Numbers.{Below, Drops, rankOf, partOf, ranks, rows}
+use Rattle.directory.specs.Cells.{cellsIn}
+use Rattle.store.specs.Held.{baseOf, held, heldIn, payloadAt, rowSpots}
+use Rattle.store.specs.Valid.{Valid}
+use Rattle.store.specs.Scan.{isStore}
+use Rattle.store.specs.Edits.{Left}
+use Rattle.store.proofs.Contents.{held-units}
+use Rattle.store.proofs.ScanStores.{store-told, store-tell}
+use Rattle.model.specs.Rows.{rising}
 use Rattle.model.specs.Fine.{fineEntry, fineEntries}
-use Rattle.model.proofs.Rows.{Side, lower, here, upper, side, above-not-below, at-above, above-above}
-use Rattle.versioned_data.specs.Layout.{slotOf, entryOf, entriesIn, holding, dataValid}
-use Rattle.versioned_data.proofs.EntrySlots.{slot-below, slots-whole, slots-used, entries-back, slots-ordered}
+use Rattle.versioned_data.specs.Layout.{StoreRow, payloadWidth, entryOf, rowsIn, entriesIn, rowOk, dataValid}
+use Rattle.versioned_data.specs.Left.{Holds}
+use Rattle.versioned_data.proofs.EntryRows.{ok-fine, ok-few}
+use Rattle.versioned_data.proofs.RowOrder.{entriesOf, entries-rise, entries-length, every-entries}
 
-fine-rising : (rs : List (Row Entry)) → fineEntries rs ≡ true → rising rs ≡ true
-unfolding fineEntries
-fine-rising rs h = and-left (rising rs) (every fineEntry rs) h
+-- ---- rows fall by spot where their cells fall by rank: a row of an entry has part 0
 
-fine-every : (rs : List (Row Entry)) → fineEntries rs ≡ true → every fineEntry rs ≡ true
-unfolding fineEntries
-fine-every rs h = and-right (rising rs) (every fineEntry rs) h
+module _ (pay : ℕ → List ℕ) where
+  part-zero : (c : Numbers.Cell) → rowOk (Numbers.rowOf c (pay (Numbers.numberOf c))) ≡ true → partOf c ≡ 0
+  unfolding partOf Numbers.rowOf
+  part-zero c h = omega (arith, ok-few (Numbers.rowOf c (pay (Numbers.numberOf c))) h)
 
--- A store that is made to hold fine entries holds them, and is valid.
-module _ (s : List ℕ) (rs : List (Row Entry)) (f : fineEntries rs ≡ true) (h : length rs ≤ slotsIn (length s)) where
-  few : length (map slotOf rs) ≤ slotsIn (length s)
-  few = rw (length-map rs slotOf) h
+  below-spots : (y : ℕ) (b : ℕ) (cs : List Numbers.Cell) → (part : b ≡ 0) → Below (4294967296 * y + b) (ranks cs) → Below y (rowSpots (rows pay cs))
+  unfolding Below rankOf rows Numbers.rowOf
+  below-spots y b [] e h = h
+  below-spots y b (c ∷ cs) e h = (omega (arith, h .0), below-spots y b cs e (h .1))
 
-  whole : every isWhole (map slotOf rs) ≡ true
-  whole = slots-whole rs (fine-every rs f)
+  drop-spots : (cs : List Numbers.Cell) → every rowOk (rows pay cs) ≡ true → Drops (ranks cs) → Drops (rowSpots (rows pay cs))
+  unfolding Drops every rows rankOf Numbers.rowOf
+  drop-spots [] h d = d
+  drop-spots (c ∷ cs) h d = (
+    below-spots (c .spot) (partOf c) cs (part-zero c (and-left (rowOk (Numbers.rowOf c (pay (Numbers.numberOf c)))) (every rowOk (rows pay cs)) h)) (d .0),
+    drop-spots cs (and-right (rowOk (Numbers.rowOf c (pay (Numbers.numberOf c)))) (every rowOk (rows pay cs)) h) (d .1),
+  )
 
-  held-holding : held (holding s rs) ≡ map slotOf rs
-  unfolding holding
-  held-holding = held-encode s (map slotOf rs) whole few (slots-used rs)
+-- ---- a valid store
 
-  pub entries-holding : entriesIn (holding s rs) ≡ rs
-  unfolding entriesIn
-  entries-holding = ap (map entryOf) held-holding ∙ entries-back rs (fine-every rs f)
-
-  pub length-holding : length (holding s rs) ≡ length s
-  unfolding holding
-  length-holding = length-encode s (map slotOf rs) whole few
-
-  pub holding-again : (qs : List (Row Entry)) → holding (holding s rs) qs ≡ holding s qs
-  unfolding holding
-  holding-again qs = encode-encode s (map slotOf rs) whole few (map slotOf qs)
-
-  packed-holding : packed (holding s rs) ≡ true
-  unfolding holding
-  packed-holding = packed-encode s (map slotOf rs) whole few (slots-used rs) ∙ slots-ordered rs ∙ fine-rising rs f
-
-  pub valid-holding : dataValid (holding s rs) ≡ true
-  unfolding dataValid
-  valid-holding = rw (entries-holding, holding-again rs, words-same (holding s rs)) f
-
--- A valid store is the one that holds its entries.
 module _ (s : List ℕ) (v : dataValid s ≡ true) where
-  pub holding-entries : holding s (entriesIn s) ≡ s
+  pub every-ok : every rowOk (rowsIn s) ≡ true
   unfolding dataValid
-  holding-entries = same-words (holding s (entriesIn s)) s (and-left (sameWords (holding s (entriesIn s)) s) (fineEntries (entriesIn s)) v)
+  every-ok = and-right (isStore payloadWidth false s) (every rowOk (rowsIn s)) v
 
-  pub fine-valid : fineEntries (entriesIn s) ≡ true
+  pub rows-here : 0 < unitsIn (length s) → rowsIn s ≡ held 22 (unitsIn (length s)) s
+  unfolding rowsIn heldIn
+  rows-here h = rw (ne-eqb (unitsIn (length s)) 0 (omega arith))
+
+  pub rows-none : unitsIn (length s) ≡ 0 → rowsIn s ≡ []
+  unfolding rowsIn heldIn
+  rows-none h = rw (eq-eqb (unitsIn (length s)) 0 h)
+
+  pub store-valid : 0 < unitsIn (length s) → Valid 22 false (unitsIn (length s)) s
   unfolding dataValid
-  fine-valid = and-right (sameWords (holding s (entriesIn s)) s) (fineEntries (entriesIn s)) v
+  store-valid h = store-told 22 false s (omega arith) (omega arith) (and-left (isStore payloadWidth false s) (every rowOk (rowsIn s)) v) h
+
+  spots-some : 0 < unitsIn (length s) → Drops (rowSpots (rowsIn s))
+  unfolding held
+  spots-some h =
+      let e : rowsIn s ≡ held 22 (unitsIn (length s)) s = rows-here h in
+      rw e (drop-spots (payloadAt 22 s) (cellsIn (baseOf 22 (unitsIn (length s))) s) (ap (every rowOk) (sym e) ∙ every-ok) (store-valid h .directory .order))
+
+  spots-none : unitsIn (length s) ≡ 0 → Drops (rowSpots (rowsIn s))
+  unfolding Drops
+  spots-none h = rw (rows-none h) tt
+
+  pub spots-drop : Drops (rowSpots (rowsIn s))
+  spots-drop = go (ℕ-discrete (unitsIn (length s)) 0)
+    where
+      go : Dec (unitsIn (length s) ≡ 0) → Drops (rowSpots (rowsIn s))
+      go (yes e) = spots-none e
+      go (no e) = spots-some (omega arith)
+
+  pub entries-are : entriesIn s ≡ entriesOf (rowsIn s)
+  unfolding entriesIn entriesOf
+  entries-are = refl
 
   pub rising-valid : rising (entriesIn s) ≡ true
-  rising-valid = fine-rising (entriesIn s) fine-valid
+  rising-valid = rw entries-are (entries-rise (rowsIn s) spots-drop)
 
   pub every-valid : every fineEntry (entriesIn s) ≡ true
-  every-valid = fine-every (entriesIn s) fine-valid
+  every-valid = rw entries-are (every-entries fineEntry (rowsIn s) (every-imp rowOk (λ u. fineEntry (entryOf u)) (λ u. ok-fine u) (rowsIn s) every-ok))
 
-  pub few-valid : length (entriesIn s) ≤ slotsIn (length s)
-  unfolding entriesIn
-  few-valid = rw (length-map (held s) entryOf) (held-fits s)
+  pub fine-valid : fineEntries (entriesIn s) ≡ true
+  unfolding fineEntries
+  fine-valid = and-both (rising (entriesIn s)) (every fineEntry (entriesIn s)) rising-valid every-valid
 
-  pub packed-valid : packed s ≡ true
-  packed-valid = ap packed (sym holding-entries) ∙ packed-holding s (entriesIn s) fine-valid few-valid
+  pub length-entries : length (entriesIn s) ≡ length (rowsIn s)
+  length-entries = ap length entries-are ∙ entries-length (rowsIn s)
 
-  pub held-valid : held s ≡ map slotOf (entriesIn s)
-  held-valid = ap held (sym holding-entries) ∙ held-holding s (entriesIn s) fine-valid few-valid
+  pub few-valid : length (entriesIn s) ≤ unitsIn (length s)
+  few-valid = go (ℕ-discrete (unitsIn (length s)) 0)
+    where
+      go : Dec (unitsIn (length s) ≡ 0) → length (entriesIn s) ≤ unitsIn (length s)
+      go (yes e) = omega (arith, length-entries, ap length (rows-none e))
+      go (no e) =
+          let h : 0 < unitsIn (length s) = omega arith in
+          let w = store-valid h in
+          omega (arith, length-entries, ap length (rows-here h), held-units 22 (unitsIn (length s)) false s w, w .units)
 
--- Positions.
-front-map : {A B : Type 0} (q : B → Bool) (g : A → B) (xs : List A) → front q (map g xs) ≡ map g (front (λ x. q (g x)) xs)
-unfolding front
-front-map q g [] = refl
-front-map q g (x ∷ xs) = go (q (g x)) refl (front-map q g xs)
-  where
-    go : (b : Bool) → q (g x) ≡ b → front q (map g xs) ≡ map g (front (λ x. q (g x)) xs) →
-        front q (map g (x ∷ xs)) ≡ map g (front (λ x. q (g x)) (x ∷ xs))
-    go true e ih = rw (e, ih)
-    go false e ih = rw e
+-- ---- what an edit leaves
 
-front-same : {A : Type 0} (p q : A → Bool) → ((x : A) → p x ≡ q x) → (xs : List A) → front p xs ≡ front q xs
-unfolding front
-front-same p q h [] = refl
-front-same p q h (x ∷ xs) = rw (h x, front-same p q h xs)
+drop-same : (n : ℕ) (s t : List ℕ) → length t ≡ length s → ((k : ℕ) → n ≤ k → getD t k 0 ≡ getD s k 0) → drop n t ≡ drop n s
+drop-same n s t e h =
+    ext-getD 0 (drop n t) (drop n s) (length-drop n t ∙ ap (λ (m : ℕ). m - n) e ∙ sym (length-drop n s))
+    (λ i l. getD-drop n t i 0 ∙ h (n + i) (omega arith) ∙ sym (getD-drop n s i 0))
 
-front-below : (k p : ℕ) (rs : List (Row Entry)) → rising rs ≡ true → front (isBelow k p) rs ≡ keep (isBelow k p) rs
-unfolding front rising keep
-front-below k p [] g = refl
-front-below k p (r ∷ rs) g = go (side k p r) (front-below k p rs (and-right (every (isAbove (r .key) (r .place)) rs) (rising rs) g))
-  where
-    none-below : ((q : Row Entry) → isAbove (r .key) (r .place) q ≡ true → isAbove k p q ≡ true) → keep (isBelow k p) rs ≡ []
-    none-below f =
-        keep-none (isBelow k p) (isAbove k p) (λ q. above-not-below k p q) rs
-        (every-imp (isAbove (r .key) (r .place)) (isAbove k p) f rs (and-left (every (isAbove (r .key) (r .place)) rs) (rising rs) g))
+module _ (s t : List ℕ) (rs : List StoreRow) (some : 0 < unitsIn (length s)) (left : Left 22 false (unitsIn (length s)) rs s t) (ok : every rowOk rs ≡ true) where
+  same : unitsIn (length t) ≡ unitsIn (length s)
+  same = ap unitsIn (left .size)
 
-    go : Side k p r → front (isBelow k p) rs ≡ keep (isBelow k p) rs → front (isBelow k p) (r ∷ rs) ≡ keep (isBelow k p) (r ∷ rs)
-    go (lower b a u) ih = rw (b, ih)
-    go (here b a u) ih = rw (b, none-below (λ q. at-above k p r q a))
-    go (upper b a u) ih = rw (b, none-below (λ q. above-above k p r q u))
+  rows-left : rowsIn t ≡ rs
+  unfolding rowsIn heldIn
+  rows-left =
+      let e : unitsIn (length t) ≡ 0 → ⊥ = λ z. omega (arith, same) in
+      rw (ne-eqb (unitsIn (length t)) 0 e) (ap (λ (n : ℕ). held 22 n t) same ∙ left .holds)
 
--- where a slot of a key and shifted index stands, or would be inserted
-pub place-rank : (k p : ℕ) (rs : List (Row Entry)) → rising rs ≡ true → placeOf (1 ∷ k ∷ p ∷ 0 ∷ []) (map slotOf rs) ≡ rank k p rs
-unfolding placeOf rank
-place-rank k p rs g =
-    ap length (front-map (λ u. before (take 4 u) (1 ∷ k ∷ p ∷ 0 ∷ [])) slotOf rs)
-    ∙ length-map (front (λ x. before (take 4 (slotOf x)) (1 ∷ k ∷ p ∷ 0 ∷ [])) rs) slotOf
-    ∙ ap length (front-same (λ x. before (take 4 (slotOf x)) (1 ∷ k ∷ p ∷ 0 ∷ [])) (isBelow k p) (slot-below k p) rs ∙ front-below k p rs g)
+  entries-left : entriesIn t ≡ entriesOf rs
+  unfolding entriesIn entriesOf
+  entries-left = ap (λ (l : List StoreRow). map entryOf (reverse l)) rows-left
+
+  valid-left : dataValid t ≡ true
+  unfolding dataValid
+  valid-left =
+      let w : Valid 22 false (unitsIn (length t)) t = rw same (left .valid) in
+      and-both (isStore payloadWidth false t) (every rowOk (rowsIn t)) (store-tell 22 false t (λ h. w)) (ap (every rowOk) rows-left ∙ ok)
+
+  pub left-holds : Holds s (entriesOf rs) t
+  left-holds =
+      record { valid = valid-left; entries = entries-left; size = left .size; past = drop-same (32 * unitsIn (length s)) s t (left .size) (left .past) }

@@ -3,17 +3,17 @@
 use mathlib.Core.Path.{_≡_, refl, sym, _∙_, ap, ap₂}
 use mathlib.Core.Bool.{Bool, true, false, cond, _||_}
 use mathlib.Core.List.{List}
-use mathlib.Core.Option.{Option, some}
+use mathlib.Core.Option.{Option, none, some}
 use Prim.Native.Nat.{ℕ, suc, _+_, _-_, _<_}
 use native.Mathlib.Omega.{arith}
 use native.Mathlib.Numerals.{add-one}
 use lib.Dec.{eqb}
-use lib.ListN.{length, set}
+use lib.ListN.{set}
 use borrow.Author.Tests.{eqb-true}
-use Rattle.number.specs.Number.{Halves, valueOf, numberOf}
+use Rattle.number.specs.Number.{Halves, range, valueOf, numberOf}
 use Rattle.number.specs.declared.Number.{Number}
 use Rattle.number.specs.Words.{digits}
-use Rattle.number.proofs.Halves.{valueOf-numberOf, numberOf-valueOf}
+use Rattle.number.proofs.Halves.{valueOf-numberOf, numberOf-valueOf, value-below}
 use Rattle.delta.specs.Delta.{deltaWords}
 use Rattle.types.specs.Index.{shift, shiftedOf, wordOf}
 use Rattle.types.specs.Refusal.{nothingThere, layoutUnderDelta, noNumberUnderDelta, notMaterializable}
@@ -21,30 +21,32 @@ use Rattle.types.specs.Response.{response, resolvedKind, unresolvedKind}
 use Rattle.types.specs.declared.index.ShiftedTxnIndex.{ShiftedTxnIndex}
 use Rattle.types.specs.declared.output.MVDataOutput as output
 use Rattle.types.specs.declared.output.MVDataOutput.the-variants as found
-use Rattle.store.specs.Slots.{slotsIn}
 use Rattle.model.specs.Rows
-use Rattle.model.specs.Rows.{find, Edit, leave, edited, downFrom, rank}
+use Rattle.model.specs.Rows.{find, Edit, leave, downFrom}
 use Rattle.model.specs.Data.{Entry, Ruling, refuse, accept, Read, versioned, resolved, unresolved, uninitialized, dependency, applicationFailure, refusal, record-shortcut, materialized, materializeDelta, readOf}
-use Rattle.model.specs.Fine.{fineRead}
+use Rattle.model.specs.Fine.{fineCell, fineRead}
+use Rattle.model.proofs.FineParts.{number-tell}
+use Rattle.model.proofs.FineEntries.{shortcut-cell}
 use Rattle.model.proofs.ReadFacts.{readOf-downFrom-fine}
-use Rattle.versioned_data.specs.Layout.{entriesIn, dataValid, wordsAfter}
-use Rattle.versioned_data.specs.Found.{foundIn}
+use Rattle.versioned_data.specs.Layout.{StoreRow, entryOf, entriesIn, dataValid}
+use Rattle.versioned_data.specs.Left.{LeftBy}
+use Rattle.versioned_data.specs.Found.{rowFound, Here, FoundIn, PutOver}
 use Rattle.versioned_data.specs.Output.{refusalOutput, outputOf}
-use Rattle.versioned_data.specs.Materialize.{materializedRead, materializedOf, Materializes, shortcutIn}
-use Rattle.store.specs.declared.search.Found.{Found}
-use Rattle.store.specs.declared.search.Found.the-variants.{There, Absent}
+use Rattle.versioned_data.specs.Materialize.{materializedRead, materializedOf, Materializes, shortcutEntry}
+use Rattle.versioned_data.specs.declared.find.Found.{Found}
+use Rattle.versioned_data.specs.declared.find.Found.the-variants.{There, Absent}
 use Rattle.versioned_data.specs.declared.materialize.Materialized.{Materialized}
 use Rattle.versioned_data.specs.declared.materialize.Materialized.the-variants.{Refused, Resolved, Unresolved}
-use Rattle.versioned_data.proofs.EntriesHeld.{holding-entries, every-valid}
+use Rattle.versioned_data.proofs.EntriesHeld.{every-valid}
 use Rattle.versioned_data.proofs.WalkBounds.{read-by}
-use Rattle.versioned_data.proofs.EntryRulings.{words-lack, lack-leave, there-has, absent-has, there-inside}
-use Rattle.versioned_data.proofs.ShortcutWords.{recorded, record-some, record-none, words-recorded}
+use Rattle.versioned_data.proofs.EntryRulings.{entry-fine, edited-left, edited-over}
+use Rattle.versioned_data.proofs.EntryOperations.{found-here, found-gone, cell-at}
 
 -- ---- where the walk resolves
 
-words-refused : (s : List ℕ) (k p : ℕ) (x : Ruling (Edit Entry)) (n : ℕ) → x ≡ refuse n → s ≡ wordsAfter s k p x
-unfolding wordsAfter
-words-refused s k p x n e = rw e
+left-refused : (s : List ℕ) (k p : ℕ) (x : Ruling (Edit Entry)) (n : ℕ) → x ≡ refuse n → LeftBy s k p x s
+unfolding LeftBy
+left-refused s k p x n e = rw e refl
 
 answer-refused : (x : Ruling (Edit Entry)) (read : Read) (n : ℕ) → x ≡ refuse n → Refused n ≡ materializedOf x read
 unfolding materializedOf
@@ -54,28 +56,41 @@ answer-resolved : (x : Ruling (Edit Entry)) (n : Number) (a : List ℕ) (y : Edi
 unfolding materializedOf materializedRead
 answer-resolved x n a y h e = rw e (ap Resolved (sym (numberOf-valueOf n h)))
 
-pub resolve-inside : (s : List ℕ) → dataValid s ≡ true → (k p : ℕ) (f : Found) → f ≡ foundIn s k p → (i : ℕ) → f ≡ There i → i < slotsIn (length s)
-resolve-inside s v k p f at i t = there-inside s v k p i (sym t ∙ at)
+record-some : (n : ℕ) (o : Option Entry) (u : StoreRow) → o ≡ some (entryOf u .held) → record-shortcut n o ≡ accept (response resolvedKind (digits 4 n)) (Rows.set (shortcutEntry n u))
+unfolding record-shortcut shortcutEntry
+record-some n o u e = rw e
 
-module _ (s : List ℕ) (v : dataValid s ≡ true) (k p : ℕ) (n : Number) (f : Found) (at : f ≡ foundIn s k p) (i : ℕ) where
-  pub resolve-refused : f ≡ Absent i → Materializes s k p (record-shortcut (valueOf n)) (resolved (valueOf n)) (Refused nothingThere) s
-  resolve-refused t =
-      let m : record-shortcut (valueOf n) (find k p (entriesIn s)) ≡ refuse nothingThere = record-none (valueOf n) (find k p (entriesIn s)) (absent-has s k p i (sym t ∙ at)) in
+record-none : (n : ℕ) (o : Option Entry) → o ≡ none → record-shortcut n o ≡ refuse nothingThere
+unfolding record-shortcut
+record-none n o e = rw e
+
+shortcut-fine : (p : ℕ) → 0 < p → (n : ℕ) (u : StoreRow) → n < range → fineCell p (entryOf u .held .estimate) (entryOf u .held .cell) ≡ true →
+    fineCell p (shortcutEntry n u .estimate) (shortcutEntry n u .cell) ≡ true
+unfolding shortcutEntry
+shortcut-fine p above n u h f = shortcut-cell p above (entryOf u .held .estimate) n (entryOf u .held .cell) (number-tell n h) f
+
+module _ (s : List ℕ) (v : dataValid s ≡ true) (k p : ℕ) (big : k < 4294967296) (small : p < 4294967296) (above : 0 < p) (n : Number) (f : Found) (t : FoundIn s k p f) (page i : ℕ) where
+  pub resolve-refused : f ≡ Absent page i → Materializes s k p (record-shortcut (valueOf n)) (resolved (valueOf n)) (Refused nothingThere) s
+  resolve-refused e =
+      let m : record-shortcut (valueOf n) (find k p (entriesIn s)) ≡ refuse nothingThere = record-none (valueOf n) (find k p (entriesIn s)) (found-gone s k p f t page i e .entry) in
       record {
         answer = answer-refused (record-shortcut (valueOf n) (find k p (entriesIn s))) (resolved (valueOf n)) nothingThere m;
-        words = words-refused s k p (record-shortcut (valueOf n) (find k p (entriesIn s))) nothingThere m;
+        left = left-refused s k p (record-shortcut (valueOf n) (find k p (entriesIn s))) nothingThere m;
       }
 
-  pub resolve-done : f ≡ There i → Halves n → (after : List ℕ) → after ≡ shortcutIn i (valueOf n) s →
+  pub resolve-done : f ≡ There page i → Halves n → (after : List ℕ) → PutOver s page i (shortcutEntry (valueOf n) (rowFound s page i)) after →
       Materializes s k p (record-shortcut (valueOf n)) (resolved (valueOf n)) (Resolved n) after
-  resolve-done t h after g = there-has s k p i (Materializes s k p (record-shortcut (valueOf n)) (resolved (valueOf n)) (Resolved n) after) (sym t ∙ at) by
-    where
-      by : (b : Entry) → find k p (entriesIn s) ≡ some b → i ≡ rank k p (entriesIn s) → Materializes s k p (record-shortcut (valueOf n)) (resolved (valueOf n)) (Resolved n) after
-      by b e j =
-          record {
-            answer = answer-resolved (record-shortcut (valueOf n) (find k p (entriesIn s))) n (response resolvedKind (digits 4 (valueOf n))) (Rows.set (recorded (valueOf n) b)) h (record-some (valueOf n) (find k p (entriesIn s)) b e);
-            words = g ∙ ap (λ (x : ℕ). shortcutIn x (valueOf n) s) j ∙ words-recorded s v k p b e (valueOf n);
-          }
+  resolve-done e h after put =
+      let x : Here s k p page i = found-here s k p f t page i e in
+      let u : StoreRow = rowFound s page i in
+      let a : Entry = shortcutEntry (valueOf n) u in
+      let m : record-shortcut (valueOf n) (find k p (entriesIn s)) ≡ accept (response resolvedKind (digits 4 (valueOf n))) (Rows.set a) = record-some (valueOf n) (find k p (entriesIn s)) u (x .entry) in
+      record {
+        answer = answer-resolved (record-shortcut (valueOf n) (find k p (entriesIn s))) n (response resolvedKind (digits 4 (valueOf n))) (Rows.set a) h m;
+        left =
+            edited-over s v k p big small page i x (record-shortcut (valueOf n)) (response resolvedKind (digits 4 (valueOf n))) a after m
+            (entry-fine k p a big small (shortcut-fine p above (valueOf n) u (value-below n h) (cell-at s v k p big small page i x))) put .left;
+      }
 
 -- ---- where it does not
 
@@ -110,9 +125,8 @@ refused-by n h = go (eqb n layoutUnderDelta) refl
     go false e = rw e (ap Refused (sym (eqb-true n noNumberUnderDelta (rw e at h))))
 
 module _ (s : List ℕ) (v : dataValid s ≡ true) (k p : ℕ) (own : Option Entry) where
-  words-left : (answer : List ℕ) → s ≡ wordsAfter s k p (accept answer leave)
-  unfolding edited
-  words-left answer = sym (words-lack s k p answer leave (lack-leave s v k p) ∙ holding-entries s v)
+  left-left : (answer : List ℕ) → LeftBy s k p (accept answer leave) s
+  left-left answer = edited-left s k p (λ o. accept answer leave) answer v refl .left
 
   answer-other : (read : Read) → fineRead read ≡ true → resolves (outputOf read) ≡ false → unrecorded (outputOf read) ≡ materializedOf (materialized own read) read
   unfolding outputOf materializedOf materialized materializedRead fineRead
@@ -124,15 +138,15 @@ module _ (s : List ℕ) (v : dataValid s ≡ true) (k p : ℕ) (own : Option Ent
   answer-other applicationFailure f h = refl
   answer-other (refusal n) f h = refused-by n f
 
-  words-other : (read : Read) → resolves (outputOf read) ≡ false → s ≡ wordsAfter s k p (materialized own read)
-  unfolding outputOf materialized wordsAfter
-  words-other (versioned place incarnation w) h = refl
-  words-other (resolved n) h = absurd (let z : _≡_ {A = ℕ} 0 1 = cc in omega arith)
-  words-other (unresolved d) h = words-left (response unresolvedKind (deltaWords d))
-  words-other uninitialized h = refl
-  words-other (dependency index) h = refl
-  words-other applicationFailure h = refl
-  words-other (refusal n) h = refl
+  left-other : (read : Read) → resolves (outputOf read) ≡ false → LeftBy s k p (materialized own read) s
+  unfolding outputOf materialized LeftBy
+  left-other (versioned place incarnation w) h = refl
+  left-other (resolved n) h = absurd (let z : _≡_ {A = ℕ} 0 1 = cc in omega arith)
+  left-other (unresolved d) h = left-left (response unresolvedKind (deltaWords d))
+  left-other uninitialized h = refl
+  left-other (dependency index) h = refl
+  left-other applicationFailure h = refl
+  left-other (refusal n) h = refl
 
 -- a read that resolved
 resolved-has : (read : Read) (n : Number) (G : Type 0) → found.Resolved n ≡ outputOf read → ((m : ℕ) → read ≡ resolved m → n ≡ numberOf m → G) → G
@@ -167,7 +181,7 @@ module _ (s : List ℕ) (v : dataValid s ≡ true) (k index : ℕ) (bound : Shif
       let other : resolves (outputOf seen) ≡ false = ap resolves (sym read ∙ e) ∙ h in
       record {
         answer = ap unrecorded (sym e ∙ read) ∙ answer-other s v k (suc index) own seen (readOf-downFrom-fine k (suc index) (entriesIn s) (every-valid s v)) other;
-        words = words-other s v k (suc index) own seen other;
+        left = left-other s v k (suc index) own seen other;
       }
 
   pub materialize-resolved : (n : Number) → o ≡ found.Resolved n → (q : ℕ) → q ≡ suc index → (r : Materialized) (after : List ℕ) →
@@ -185,8 +199,5 @@ module _ (s : List ℕ) (v : dataValid s ≡ true) (k index : ℕ) (bound : Shif
                 w .answer
                 ∙ ap₂ (λ (x y : ℕ). materializedOf (record-shortcut y (find k x (entriesIn s))) (resolved y)) place same
                 ∙ sym (ap₂ (λ (x : Ruling (Edit Entry)) (y : Read). materializedOf x y) rule e);
-            words =
-                w .words
-                ∙ ap₂ (λ (x y : ℕ). wordsAfter s k x (record-shortcut y (find k x (entriesIn s)))) place same
-                ∙ sym (ap (wordsAfter s k (suc index)) rule);
+            left = rw rule (rw (← same) (rw place at (w .left)));
           }

@@ -1,191 +1,238 @@
--- The scan of a store: what it finds in a slot, word by word, is rule 5 of that slot, and so of the store.
+-- The scan step by step: the tests of a row's words, and of one row after the other.
 -- Assumes nothing.
 use mathlib.Core.Path.{_≡_, refl, sym, _∙_, ap}
-use mathlib.Core.Bool.{Bool, true, false, cond, not, _&&_}
-use mathlib.Core.List.{List}
-use Prim.Native.Nat.{ℕ, zero, suc, _+_, _*_, _≤_, _<_}
+use mathlib.Core.Bool.{Bool, true, false, _&&_}
+use mathlib.Core.List.{List, [], _∷_, _++_}
+use Prim.Native.Nat.{ℕ, zero, suc, _+_, _-_, _*_, _/_, _%_, _≤_, _<_, _^_}
 use native.Mathlib.Omega.{arith}
-use lib.Dec.{leb, eqb}
+use lib.Dec.{eqb}
 use lib.ListN.{length, getD, take, drop}
-use borrow.Author.Tests.{eq-eqb, ne-eqb, le-leb, lt-leb, not-true, not-false}
+use lib.Seq.{take-take, drop-cons}
+use borrow.Author.Tests.{ltb-true, ltb-false, lt-ltb, le-ltb, eq-eqb, ne-eqb}
 use Rattle.lists.specs.Lists.{every}
-use Rattle.lists.proofs.Bools.{and-assoc, and-swap}
 use Rattle.number.specs.Words.{AreWords}
-use Rattle.delta.specs.Delta.{deltaWidth, deltaOk}
-use Rattle.types.specs.Value.{valueWidth, valueAt, valueOk, isExchanged}
-use Rattle.store.specs.Slots.{slotWidth, slotsIn, slotAt, held, packed, neighbours, isBefore, isZeroFrom, allZero, sound}
-use Rattle.store.proofs.SlotOrder.{ordered-is-neighbours}
-use Rattle.store.proofs.StoreWords.{slotAt-part, slotAt-word}
-use Rattle.versioned_data.specs.Layout.{valueStart, valueEnd, deltaStart, deltaEnd, shortcutEnd, dataValid, slotOk, bodyTest, slotTest}
-use Rattle.versioned_data.proofs.ScanSlots.{valid-slots}
-use Rattle.versioned_data.proofs.ScanSlotWords.{slotOk-at}
+use Rattle.number.proofs.Digits.{words-take, words-drop}
+use Rattle.delta.specs.Delta.{deltaOk}
+use Rattle.delta.specs.Op.{opAt, validOp}
+use Rattle.delta.specs.declared.DeltaOp.{DeltaOp}
+use Rattle.delta.proofs.DeltaOps.{validOp-opAt}
+use Rattle.types.specs.Value.{valueAt, valueOk, isExchanged}
+use Rattle.types.specs.ValueWithLayout.{valueFrom, wordsOf}
+use Rattle.types.specs.declared.value.ValueWithLayout.{ValueWithLayout}
+use Rattle.types.specs.Units.{unitsIn}
+use Rattle.types.proofs.ValueLaws.{read-words}
+use Rattle.moves.specs.Moves.{allZero}
+use Rattle.probe.specs.Cells.{spotAt}
+use Rattle.pages.specs.Dir.{flat, offset}
+use Rattle.directory.specs.Cells.{positionIn}
+use Rattle.store.specs.Held.{baseOf, heldIn, positionOf, contentOf, noRow}
+use Rattle.store.specs.Valid.{Valid, Stands, There}
+use Rattle.store.specs.Scan.{isStore}
+use Rattle.store.proofs.Reading.{position-held, row-spot}
+use Rattle.store.proofs.ScanStores.{store-told}
+use Rattle.versioned_data.specs.Layout.{payloadWidth, contentWidth, StoreRow, rowsIn, rowOk, dataValid}
+use Rattle.versioned_data.specs.Rows.{rowsOf, Met}
+use Rattle.versioned_data.specs.Rows as Rows
+use Rattle.versioned_data.specs.Test.{sideTest, writeTest, deltaTest, marksTest, rowTest}
+use Rattle.versioned_data.proofs.ContentWords.{rest-of, word-of, value-of, content-inside, payload-size, payload-is}
+use Rattle.versioned_data.proofs.RowTests.{test-is}
 
--- the order of all slots is that of neighbours, so rule 5 is what a scan decides
-pub valid-sound : (s : List ℕ) → dataValid s ≡ sound slotOk isBefore s
-unfolding packed sound
-valid-sound s =
-    valid-slots s ∙ ap (λ (b : Bool). isZeroFrom (length (held s)) s && b && every slotOk (held s)) (ordered-is-neighbours (held s))
-    ∙ and-assoc (isZeroFrom (length (held s)) s) (neighbours isBefore (held s)) (every slotOk (held s))
-    ∙ ap (λ (b : Bool). isZeroFrom (length (held s)) s && b) (and-swap (neighbours isBefore (held s)) (every slotOk (held s)))
+-- ---- the content at b
 
--- the first test that fails settles a conjunction, and the last one decides it
-and-no : (a b : Bool) → a ≡ false → false ≡ (a && b)
-and-no a b e = rw e
+module _ (s : List ℕ) (b place marks : ℕ) (inside : b + contentWidth ≤ length s) where
+  abbrev ws : List ℕ
+  ws = take contentWidth (drop b s)
 
-and-last : (a b r : Bool) → a ≡ true → r ≡ b → r ≡ (a && b)
-and-last a b r e f = rw e f
+  value-here : valueAt 1 ws ≡ valueAt (b + 1) s
+  value-here = value-of s b contentWidth 1 (omega arith)
 
-three-first : (a b c : Bool) → a ≡ false → false ≡ (a && b && c)
-three-first a b c e = rw e
+  first-here : getD ws 0 0 ≡ getD s b 0
+  first-here = let e : b + 0 ≡ b = omega arith in word-of s b contentWidth 0 (omega arith) ∙ ap (λ (k : ℕ). getD s k 0) e
 
-three-second : (a b c : Bool) → a ≡ true → b ≡ false → false ≡ (a && b && c)
-three-second a b c e f = rw (e, f)
+  -- where a write stands
+  pub side-above : (place ≡ 0 → ⊥) → AreWords s → (v : ValueWithLayout) → v ≡ valueFrom (valueAt (b + 1) s) → (r : Bool) → r ≡ isExchanged (wordsOf v) → r ≡ sideTest place marks ws
+  unfolding sideTest
+  side-above n words v e r f =
+      let w : wordsOf v ≡ valueAt (b + 1) s = read-words s (b + 1) v words (omega arith) e in
+      rw (ne-eqb place 0 n, value-here) (f ∙ ap isExchanged w)
 
-three-last : (a b c r : Bool) → a ≡ true → b ≡ true → r ≡ c → r ≡ (a && b && c)
-three-last a b c r e f g = rw (e, f) g
+  pub side-first : place ≡ 0 → (getD s b 0 ≡ 0 → ⊥) → false ≡ sideTest place marks ws
+  unfolding sideTest
+  side-first e n = rw (eq-eqb place 0 e, first-here, ne-eqb (getD s b 0) 0 n)
 
--- ---- a slot's words
+  pub side-base : place ≡ 0 → getD s b 0 ≡ 0 → eqb marks 0 ≡ sideTest place marks ws
+  unfolding sideTest
+  side-base e f = rw (eq-eqb place 0 e, first-here, eq-eqb (getD s b 0) 0 f)
 
-module _ (s : List ℕ) (i : ℕ) where
-  word-is : (j x : ℕ) → j < slotWidth → x ≡ getD s (slotWidth * i + j) 0 → getD (slotAt i s) j 0 ≡ x
-  word-is j x h e = slotAt-word i j s h ∙ sym e
+  -- a write
+  module _ (v : Bool) (value : v ≡ valueOk (valueAt (b + 1) s)) where
+    ok-here : valueOk (valueAt 1 ws) ≡ v
+    ok-here = ap valueOk value-here ∙ sym value
 
-  -- ---- the head
+    pub write-value : v ≡ false → false ≡ writeTest place marks ws
+    unfolding writeTest
+    write-value e = rw (ok-here, e)
 
-  abbrev head : Bool
-  head = eqb (getD (slotAt i s) 0 0) 1 && eqb (getD (slotAt i s) 3 0) 0 && leb (getD (slotAt i s) 4 0) 2 && leb (getD (slotAt i s) 5 0) 1
+    module _ (fine : v ≡ true) (t : Bool) (side : t ≡ sideTest place marks ws) where
+      pub write-side : t ≡ false → false ≡ writeTest place marks ws
+      unfolding writeTest
+      write-side e = rw (ok-here, fine, ← side, e)
 
-  module _ (a : ℕ) (ea : a ≡ getD s (slotWidth * i + 0) 0) where
-    pub head-unused : (a ≡ 1 → ⊥) → false ≡ head
-    head-unused h = rw (word-is 0 a (omega arith) ea, ne-eqb a 1 h)
+      pub write-rest : t ≡ true → (r : Bool) → r ≡ allZero (take (b + 20 - (b + 8)) (drop (b + 8) s)) → r ≡ writeTest place marks ws
+      unfolding writeTest
+      write-rest e r f =
+          let n : b + 20 - (b + 8) ≡ 12 = omega arith in
+          let z : allZero (drop 8 ws) ≡ r = ap allZero (rest-of s b contentWidth 8 (omega arith)) ∙ ap (λ (k : ℕ). allZero (take k (drop (b + 8) s))) (sym n) ∙ sym f in
+          rw (ok-here, fine, ← side, e, z)
 
-    module _ (ha : a ≡ 1) (d : ℕ) (ed : d ≡ getD s (slotWidth * i + 3) 0) where
-      used : eqb (getD (slotAt i s) 0 0) 1 ≡ true
-      used = rw (word-is 0 a (omega arith) ea) (eq-eqb a 1 ha)
+  -- a delta
+  pub delta-base : place ≡ 0 → false ≡ deltaTest place marks ws
+  unfolding deltaTest
+  delta-base e = rw (eq-eqb place 0 e)
 
-      pub head-third : (d ≡ 0 → ⊥) → false ≡ head
-      head-third h = rw (used, word-is 3 d (omega arith) ed, ne-eqb d 0 h)
+  module _ (above : place ≡ 0 → ⊥) (op : DeltaOp) (read : op ≡ opAt (take 16 (drop b s) ++ (marks / 8 ∷ []))) (v : Bool) (valid : v ≡ validOp op) where
+    delta-here : deltaOk (take 16 ws ++ (marks / 8 ∷ [])) ≡ v
+    delta-here =
+        ap (λ (l : List ℕ). deltaOk (l ++ (marks / 8 ∷ []))) (take-take 16 contentWidth (drop b s) (omega arith))
+        ∙ sym (valid ∙ ap validOp read ∙ validOp-opAt (take 16 (drop b s) ++ (marks / 8 ∷ [])))
 
-      module _ (hd : d ≡ 0) (e : ℕ) (ee : e ≡ getD s (slotWidth * i + 4) 0) where
-        third : eqb (getD (slotAt i s) 3 0) 0 ≡ true
-        third = rw (word-is 3 d (omega arith) ed) (eq-eqb d 0 hd)
+    pub delta-bad : v ≡ false → false ≡ deltaTest place marks ws
+    unfolding deltaTest
+    delta-bad e = rw (ne-eqb place 0 above, delta-here, e)
 
-        pub head-form : 2 < e → false ≡ head
-        head-form h = rw (used, third, word-is 4 e (omega arith) ee, lt-leb e 2 h)
+    module _ (fine : v ≡ true) where
+      pub delta-rest : marks % 4 ≡ 1 → (r : Bool) → r ≡ allZero (take (b + 20 - (b + 16)) (drop (b + 16) s)) → r ≡ deltaTest place marks ws
+      unfolding deltaTest
+      delta-rest e r f =
+          let n : b + 20 - (b + 16) ≡ 4 = omega arith in
+          let z : allZero (drop 16 ws) ≡ r = ap allZero (rest-of s b contentWidth 16 (omega arith)) ∙ ap (λ (k : ℕ). allZero (take k (drop (b + 16) s))) (sym n) ∙ sym f in
+          rw (ne-eqb place 0 above, delta-here, fine, eq-eqb (marks % 4) 1 e, z)
 
-        pub head-flag : e ≤ 2 → (f : ℕ) → f ≡ getD s (slotWidth * i + 5) 0 → leb f 1 ≡ head
-        head-flag h f ef = rw (used, third, word-is 4 e (omega arith) ee, le-leb e 2 h, word-is 5 f (omega arith) ef)
+      pub delta-fine : (marks % 4 ≡ 1 → ⊥) → true ≡ deltaTest place marks ws
+      unfolding deltaTest
+      delta-fine n = rw (ne-eqb place 0 above, delta-here, fine, ne-eqb (marks % 4) 1 n)
 
-  -- ---- a write
+-- by the marks
+module _ (place marks : ℕ) (ws : List ℕ) where
+  pub marks-many : marks % 4 ≡ 0 → 8 ≤ marks → false ≡ marksTest place marks ws
+  unfolding marksTest
+  marks-many e h = rw (eq-eqb (marks % 4) 0 e, le-ltb marks 8 h)
 
-  -- what its place allows, for a value that is exchanged or not
-  abbrev placed : Bool → Bool
-  placed x = cond (eqb (getD (slotAt i s) 2 0) 0) (eqb (getD (slotAt i s) 6 0) 0 && eqb (getD (slotAt i s) 5 0) 0) x
+  pub marks-write : marks % 4 ≡ 0 → (8 ≤ marks → ⊥) → (r : Bool) → r ≡ writeTest place marks ws → r ≡ marksTest place marks ws
+  unfolding marksTest
+  marks-write e h r f = rw (eq-eqb (marks % 4) 0 e, lt-ltb marks 8 (omega arith)) f
 
-  module _ (p : ℕ) (ep : p ≡ getD s (slotWidth * i + 2) 0) (x : Bool) where
-    pub placed-above : (p ≡ 0 → ⊥) → (r : Bool) → r ≡ x → r ≡ placed x
-    placed-above h r e = rw (word-is 2 p (omega arith) ep, ne-eqb p 0 h) e
+  pub marks-none : (marks % 4 ≡ 0 → ⊥) → marks % 4 ≡ 3 → false ≡ marksTest place marks ws
+  unfolding marksTest
+  marks-none n e = rw (ne-eqb (marks % 4) 0 n, le-ltb (marks % 4) 3 (omega arith))
 
-    module _ (h : p ≡ 0) (n : ℕ) (en : n ≡ getD s (slotWidth * i + 6) 0) where
-      base : eqb (getD (slotAt i s) 2 0) 0 ≡ true
-      base = rw (word-is 2 p (omega arith) ep) (eq-eqb p 0 h)
+  pub marks-delta : (marks % 4 ≡ 0 → ⊥) → (marks % 4 ≡ 3 → ⊥) → (r : Bool) → r ≡ deltaTest place marks ws → r ≡ marksTest place marks ws
+  unfolding marksTest
+  marks-delta n m r f = rw (ne-eqb (marks % 4) 0 n, lt-ltb (marks % 4) 3 (omega arith)) f
 
-      pub placed-again : (n ≡ 0 → ⊥) → false ≡ placed x
-      placed-again k = rw (base, word-is 6 n (omega arith) en, ne-eqb n 0 k)
+-- ---- a row
 
-      pub placed-base : n ≡ 0 → (f : ℕ) → f ≡ getD s (slotWidth * i + 5) 0 → eqb f 0 ≡ placed x
-      placed-base k f ef = rw (base, word-is 6 n (omega arith) en, eq-eqb n 0 k, word-is 5 f (omega arith) ef)
+module _ (n : ℕ) (s : List ℕ) (valid : Valid payloadWidth false n s) (words : AreWords s) (page cell : ℕ) (there : There payloadWidth n s page cell) where
+  abbrev at : ℕ
+  at = Rows.positionIn n s page cell
 
-  module _ (v : List ℕ) (ev : v ≡ valueAt (slotWidth * i + valueStart) s) (o : Bool) (eo : o ≡ valueOk v) where
-    value-there : valueAt valueStart (slotAt i s) ≡ v
-    unfolding valueAt
-    value-there = slotAt-part i valueStart valueWidth s (omega arith) ∙ sym ev
+  abbrev row : StoreRow
+  row = getD (rowsOf n s) at noRow
 
-    value-told : valueOk (valueAt valueStart (slotAt i s)) ≡ o
-    value-told = ap valueOk value-there ∙ sym eo
+  at-inside : at < length (rowsOf n s)
+  at-inside = position-held payloadWidth n s page cell there
 
-    pub write-value : not o ≡ true → false ≡ bodyTest 0 (slotAt i s)
-    unfolding bodyTest
-    write-value h =
-        three-first (valueOk (valueAt valueStart (slotAt i s))) (placed (isExchanged (valueAt valueStart (slotAt i s)))) (allZero (drop valueEnd (slotAt i s)))
-        (value-told ∙ not-true o h)
+  pub row-content : (b : ℕ) → b ≡ contentOf payloadWidth n s at → b + contentWidth ≤ length s
+  row-content b e = omega (arith, e, content-inside n s valid at at-inside)
 
-    module _ (ho : not o ≡ false) (p : Bool) (ep : p ≡ placed (isExchanged v)) where
-      placed-told : placed (isExchanged (valueAt valueStart (slotAt i s))) ≡ p
-      placed-told = ap (λ (l : List ℕ). placed (isExchanged l)) value-there ∙ sym ep
+  spot-small : row .spot < 2 ^ 64
+  unfolding spotAt
+  spot-small =
+      let a : ℕ = baseOf payloadWidth n + 97 * page + 1 + 3 * cell in
+      omega (arith, row-spot payloadWidth n page cell s there, words a, words (a + 1))
 
-      pub write-place : not p ≡ true → false ≡ bodyTest 0 (slotAt i s)
-      unfolding bodyTest
-      write-place h =
-          three-second (valueOk (valueAt valueStart (slotAt i s))) (placed (isExchanged (valueAt valueStart (slotAt i s)))) (allZero (drop valueEnd (slotAt i s)))
-          (value-told ∙ not-false o ho) (placed-told ∙ not-true p h)
+  payload-words : AreWords (row .payload)
+  payload-words = rw (payload-is n s valid at at-inside) (words-take contentWidth (drop (contentOf payloadWidth n s at) s) (words-drop (contentOf payloadWidth n s at) s words))
 
-      pub write-rest : not p ≡ false → (r : Bool) → r ≡ allZero (drop valueEnd (slotAt i s)) → r ≡ bodyTest 0 (slotAt i s)
-      unfolding bodyTest
-      write-rest h r e =
-          three-last (valueOk (valueAt valueStart (slotAt i s))) (placed (isExchanged (valueAt valueStart (slotAt i s)))) (allZero (drop valueEnd (slotAt i s))) r
-          (value-told ∙ not-false o ho) (placed-told ∙ not-false p h) e
+  pub row-is : (b place marks : ℕ) → b ≡ contentOf payloadWidth n s at → place ≡ row .spot % 4294967296 → marks ≡ row .marks → (r : Bool) →
+      r ≡ marksTest place marks (take contentWidth (drop b s)) → r ≡ rowOk row
+  unfolding rowTest
+  row-is b place marks e p m r f =
+      let w : take contentWidth (drop b s) ≡ row .payload = ap (λ (k : ℕ). take contentWidth (drop k s)) e ∙ sym (payload-is n s valid at at-inside) in
+      f ∙ rw (p, m, w) (test-is row spot-small payload-words (payload-size n s valid at at-inside))
 
-  -- ---- a delta
+-- ---- one row after the other
 
-  abbrev deltaFrom : ℕ → Bool
-  deltaFrom j = not (eqb (getD (slotAt i s) 2 0) 0) && deltaOk (take deltaWidth (drop deltaStart (slotAt i s))) && allZero (drop j (slotAt i s))
+module _ (rows : List StoreRow) (c : ℕ) where
+  pub every-end : length rows ≤ c → every rowOk (drop c rows) ≡ true
+  unfolding every
+  every-end h = rw (drop-all c rows h)
+    where
+      drop-all : (c : ℕ) (l : List StoreRow) → length l ≤ c → drop c l ≡ []
+      drop-all zero [] h = refl
+      drop-all (suc c) [] h = refl
+      drop-all zero (x ∷ l) h = absurd (omega arith)
+      drop-all (suc c) (x ∷ l) h = drop-all c l (omega arith)
 
-  module _ (j p : ℕ) (ep : p ≡ getD s (slotWidth * i + 2) 0) where
-    pub delta-base : p ≡ 0 → false ≡ deltaFrom j
-    delta-base h = rw (word-is 2 p (omega arith) ep, eq-eqb p 0 h)
+  pub every-step : c < length rows → every rowOk (drop c rows) ≡ (rowOk (getD rows c noRow) && every rowOk (drop (suc c) rows))
+  unfolding every
+  every-step h = rw (drop-cons rows c noRow h)
 
-    module _ (h : p ≡ 0 → ⊥) (o : Bool) (eo : o ≡ deltaOk (take deltaWidth (drop (slotWidth * i + deltaStart) s))) where
-      above : not (eqb (getD (slotAt i s) 2 0) 0) ≡ true
-      above = rw (word-is 2 p (omega arith) ep, ne-eqb p 0 h)
+abbrev pub restOk : ℕ → List ℕ → ℕ → ℕ → Bool
+restOk n s page cell = every rowOk (drop (Rows.positionIn n s page cell) (rowsOf n s))
 
-      delta-told : deltaOk (take deltaWidth (drop deltaStart (slotAt i s))) ≡ o
-      delta-told = ap deltaOk (slotAt-part i deltaStart deltaWidth s (omega arith)) ∙ sym eo
+-- the first place
+pub first-stands : (n : ℕ) (s : List ℕ) → Stands payloadWidth n s 0 0
+unfolding Stands
+first-stands n s = record { inside = omega arith; fits = omega arith }
 
-      pub delta-words : not o ≡ true → false ≡ deltaFrom j
-      delta-words k =
-          three-second (not (eqb (getD (slotAt i s) 2 0) 0)) (deltaOk (take deltaWidth (drop deltaStart (slotAt i s)))) (allZero (drop j (slotAt i s))) above
-          (delta-told ∙ not-true o k)
+first-position : (n : ℕ) (s : List ℕ) → Rows.positionIn n s 0 0 ≡ 0
+unfolding positionOf positionIn offset flat
+first-position n s = refl
 
-      pub delta-rest : not o ≡ false → (r : Bool) → r ≡ allZero (drop j (slotAt i s)) → r ≡ deltaFrom j
-      delta-rest k r e =
-          three-last (not (eqb (getD (slotAt i s) 2 0) 0)) (deltaOk (take deltaWidth (drop deltaStart (slotAt i s)))) (allZero (drop j (slotAt i s))) r above
-          (delta-told ∙ not-false o k) e
+module _ (n : ℕ) (s : List ℕ) where
+  pub rows-start : (page cell : ℕ) → Rows.positionIn n s page cell ≡ Rows.positionIn n s 0 0 → every rowOk (rowsOf n s) ≡ restOk n s page cell
+  rows-start page cell e = let f : Rows.positionIn n s page cell ≡ 0 = e ∙ first-position n s in rw f
 
-  -- ---- what stands after the head, by its form
+  module _ (page cell : ℕ) (is : Bool) (met : Met n s page cell is) (told : every rowOk (rowsOf n s) ≡ restOk n s page cell) where
+    abbrev here : ℕ
+    here = Rows.positionIn n s page cell
 
-  module _ (n : ℕ) (en : n ≡ getD s (slotWidth * i + 4) 0) (r : Bool) where
-    by-form : r ≡ bodyTest n (slotAt i s) → r ≡ bodyTest (getD (slotAt i s) 4 0) (slotAt i s)
-    by-form e = rw (word-is 4 n (omega arith) en) e
+    pub rows-end : is ≡ false → true ≡ every rowOk (rowsOf n s)
+    rows-end e =
+        sym (told ∙ every-end (rowsOf n s) here (ltb-false here (length (rowsOf n s)) (sym (met .left) ∙ e)))
 
-    pub body-write : n ≡ 0 → r ≡ bodyTest 0 (slotAt i s) → r ≡ bodyTest (getD (slotAt i s) 4 0) (slotAt i s)
-    body-write h e = by-form (rw h e)
+    pub rows-inside : is ≡ true → here < length (rowsOf n s)
+    rows-inside e = ltb-true here (length (rowsOf n s)) (sym (met .left) ∙ e)
 
-    pub body-delta : n ≡ 1 → r ≡ deltaFrom deltaEnd → r ≡ bodyTest (getD (slotAt i s) 4 0) (slotAt i s)
-    unfolding bodyTest
-    body-delta h e = by-form (rw h e)
+    module _ (e : is ≡ true) (r : Bool) (row : r ≡ rowOk (getD (rowsOf n s) here noRow)) where
+      step : every rowOk (rowsOf n s) ≡ (r && every rowOk (drop (suc here) (rowsOf n s)))
+      step = told ∙ every-step (rowsOf n s) here (rows-inside e) ∙ ap (λ (q : Bool). q && every rowOk (drop (suc here) (rowsOf n s))) (sym row)
 
-    pub body-shortcut : (n ≡ 0 → ⊥) → (n ≡ 1 → ⊥) → r ≡ deltaFrom shortcutEnd → r ≡ bodyTest (getD (slotAt i s) 4 0) (slotAt i s)
-    unfolding bodyTest
-    body-shortcut h k e = by-form (go n h k)
-      where
-        go : (m : ℕ) → (m ≡ 0 → ⊥) → (m ≡ 1 → ⊥) → r ≡ bodyTest m (slotAt i s)
-        go zero h k = absurd (h refl)
-        go (suc zero) h k = absurd (k refl)
-        go (suc (suc m)) h k = e
+      pub rows-bad : r ≡ false → false ≡ every rowOk (rowsOf n s)
+      rows-bad f = sym (step ∙ ap (λ (q : Bool). q && every rowOk (drop (suc here) (rowsOf n s))) f)
 
-  -- ---- a slot
+      pub rows-on : r ≡ true → (page′ cell′ : ℕ) → Rows.positionIn n s page′ cell′ ≡ suc here → every rowOk (rowsOf n s) ≡ restOk n s page′ cell′
+      rows-on f page′ cell′ p =
+          step ∙ ap (λ (q : Bool). q && every rowOk (drop (suc here) (rowsOf n s))) f ∙ ap (λ (k : ℕ). every rowOk (drop k (rowsOf n s))) (sym p)
 
-  module _ (w : AreWords s) (inside : i < slotsIn (length s)) (a : Bool) (ea : a ≡ head) where
-    by-words : slotOk (slotAt i s) ≡ slotTest (slotAt i s)
-    by-words = slotOk-at i s w inside
+-- ---- the whole
 
-    pub slot-head : not a ≡ true → false ≡ slotOk (slotAt i s)
-    unfolding slotTest
-    slot-head h =
-        and-no head (bodyTest (getD (slotAt i s) 4 0) (slotAt i s)) (sym ea ∙ not-true a h) ∙ sym by-words
+module _ (s : List ℕ) (r : Bool) (store : r ≡ isStore payloadWidth false s) where
+  pub no-store : r ≡ false → false ≡ dataValid s
+  unfolding dataValid
+  no-store e = rw (← store, e)
 
-    pub slot-body : not a ≡ false → (r : Bool) → r ≡ bodyTest (getD (slotAt i s) 4 0) (slotAt i s) → r ≡ slotOk (slotAt i s)
-    unfolding slotTest
-    slot-body h r e =
-        and-last head (bodyTest (getD (slotAt i s) 4 0) (slotAt i s)) r (sym ea ∙ not-false a h) e ∙ sym by-words
+  module _ (e : r ≡ true) (n : ℕ) (units : n ≡ unitsIn (length s)) where
+    pub none-held : n ≡ 0 → true ≡ dataValid s
+    unfolding dataValid rowsIn heldIn every
+    none-held z = rw (← store, e, eq-eqb (unitsIn (length s)) 0 (sym units ∙ z))
+
+    pub some-valid : (n ≡ 0 → ⊥) → Valid payloadWidth false n s
+    some-valid z = rw units (store-told payloadWidth false s (omega arith) (omega arith) (sym store ∙ e) (omega arith))
+
+    pub some-held : (n ≡ 0 → ⊥) → (q : Bool) → q ≡ every rowOk (rowsOf n s) → q ≡ dataValid s
+    unfolding dataValid rowsIn heldIn
+    some-held z q f =
+        let m : unitsIn (length s) ≡ 0 → ⊥ = λ g. z (units ∙ g) in
+        rw (← store, e, ne-eqb (unitsIn (length s)) 0 m) (f ∙ ap (λ (k : ℕ). every rowOk (rowsOf k s)) units)

@@ -1,217 +1,136 @@
--- A shortcut recorded in a slot's words is the shortcut of the entry there.
+-- A shortcut recorded in a row's words is the shortcut of the entry there.
 -- Assumes nothing.
-use mathlib.Core.Path.{_≡_, refl, sym, _∙_, ap, ap₂}
-use mathlib.Core.Bool.{Bool, true}
-use mathlib.Core.List.{List, [], _∷_, _++_, map, append-assoc}
+use mathlib.Core.Path.{_≡_, refl, sym, _∙_, ap}
+use mathlib.Core.Bool.{Bool, true, false}
+use mathlib.Core.List.{List, _++_}
 use mathlib.Core.Option.{Option, none, some}
-use Prim.Native.Nat.{ℕ, suc, _+_, _-_, _*_, _≤_, _<_}
+use Prim.Native.Nat.{ℕ, _+_, _-_, _*_, _/_, _%_, _≤_, _<_}
 use native.Mathlib.Omega.{arith}
-use lib.ListN.{length, getD, set, take, drop, replicate, length-append, length-set}
-use lib.Seq.{sets, sets-eq, take-at, drop-at, drop-drop, set-getD, set-set, getD-set-same}
-use borrow.Author.Tests.{eq-eqb, ne-eqb}
-use Rattle.lists.specs.Lists.{every}
-use Rattle.lists.proofs.Lists.{every-at, every-set}
+use native.Mathlib.Decide.{decLt}
+use lib.ListN.{length, getD, set, take, length-append, List·getD-append}
+use lib.Seq.{sets, length-take-le, getD-append-add}
 use Rattle.number.specs.Words.{digits}
 use Rattle.number.proofs.Digits.{length-digits}
-use Rattle.delta.specs.Delta.{deltaWidth, Delta, deltaWords}
+use Rattle.delta.specs.Delta.{Delta, deltaWords}
 use Rattle.delta.proofs.DeltaFormat.{length-deltaWords}
 use Rattle.types.specs.Flag.{flagOf}
-use Rattle.types.specs.Refusal.{nothingThere}
-use Rattle.types.specs.Response.{response, resolvedKind}
-use Rattle.store.specs.Slots.{Slot, slotWidth, slotsIn, encode, isWhole, padded}
-use Rattle.store.proofs.StoreWords.{whole-length}
-use Rattle.store.proofs.SlotEdits.{set-encode}
-use Rattle.model.specs.Rows
-use Rattle.model.specs.Rows.{find, put, edited, rank, rowAt}
-use Rattle.model.specs.Data.{Cell, write, delta, Entry, refuse, accept, withShortcut, record-shortcut}
-use Rattle.model.proofs.RowPlaces.{getD-rank, put-present}
-use Rattle.versioned_data.specs.Layout.{deltaEnd, formOf, bodyOf, slotOf, entriesIn, holding, dataValid, wordsAfter}
-use Rattle.versioned_data.specs.Materialize.{shortcutIn}
-use Rattle.versioned_data.proofs.EntriesHeld.{holding-entries, rising-valid}
-use Rattle.versioned_data.proofs.EntryEdits.{slots-valid, slots-few, encode-entries, place-slots, slot-valid, put-slots, word-valid}
-use Rattle.versioned_data.proofs.EntryWords.{slot-form}
-use Rattle.versioned_data.proofs.EntryRulings.{words-lack, lack-present}
+use Rattle.types.specs.Units.{unitsIn}
+use Rattle.store.specs.Held.{held, positionOf, contentOf, noRow}
+use Rattle.store.specs.Edits.{Left, Rewritten, marked}
+use Rattle.model.specs.Data.{Cell, write, delta, withShortcut}
+use Rattle.versioned_data.specs.Layout.{StoreRow, formOf, signOf, marksOf, bodyOf, padded, entryOf, rowOk, dataValid}
+use Rattle.versioned_data.specs.Found.{rowFound, IsRow, remade, PutOver}
+use Rattle.versioned_data.specs.Materialize.{shortcutEntry}
+use Rattle.versioned_data.proofs.EntryRows.{ok-marks, ok-payload, ok-few, marks-upper}
+use Rattle.versioned_data.proofs.EntryMarks.{row-form}
+use Rattle.versioned_data.proofs.RowContents.{sets-under, sets-within, getD-padded, sets-rewritten, same-rewritten}
+use Rattle.versioned_data.proofs.RowEdits.{row-is, found-fine, row-room, row-word, put-same, put-both}
 
--- ---- words of a slot
+-- ---- a write has none
 
-whole-set : (u : Slot) (j w : ℕ) → isWhole u ≡ true → isWhole (set u j w) ≡ true
-unfolding isWhole
-whole-set u j w e = eq-eqb (length (set u j w)) slotWidth (length-set u j w ∙ whole-length u e)
+write-kept : (n : ℕ) (c : Cell) → formOf c ≡ 0 → withShortcut n c ≡ c
+unfolding formOf withShortcut
+write-kept n (write i v) e = refl
+write-kept n (delta d none) e = absurd (omega arith)
+write-kept n (delta d (some m)) e = absurd (omega arith)
 
--- Stores into the words of slot i, one after another.
-sets-encode : (vs : List ℕ) (s : List ℕ) (us : List Slot) → every isWhole us ≡ true → length us ≤ slotsIn (length s) → (i : ℕ) → i < length us → (j : ℕ) → j + length vs ≤ slotWidth →
-    sets (encode s us) (slotWidth * i + j) vs ≡ encode s (set us i (sets (getD us i []) j vs))
-sets-encode [] s us whole fits i h j g = ap (encode s) (sym (set-getD us i []))
-sets-encode (v ∷ vs) s us whole fits i h j g =
-    ap (λ (l : List ℕ). sets l (suc (slotWidth * i + j)) vs) (set-encode s us whole fits i h j v (omega arith))
-    ∙ ap (λ (m : ℕ). sets (encode s us′) m vs) next
-    ∙ sets-encode vs s us′ whole′ (omega (arith, length-set us i u)) i (omega (arith, length-set us i u)) (suc j) (omega arith)
-    ∙ ap (λ (x : Slot). encode s (set us′ i (sets x (suc j) vs))) (getD-set-same us i u [] h)
-    ∙ ap (encode s) (set-set us i u (sets u (suc j) vs))
-  where
-    u : Slot
-    u = set (getD us i []) j v
+row-kept : (n : ℕ) (u : StoreRow) → rowOk u ≡ true → u .marks % 4 ≡ 0 → u ≡ remade (shortcutEntry n u) u
+unfolding remade shortcutEntry
+row-kept n u h z =
+    let c : Cell = entryOf u .held .cell in
+    let e : withShortcut n c ≡ c = write-kept n c (sym (row-form u h) ∙ z) in
+    let m : u .marks ≡ marksOf (record { cell = withShortcut n c; estimate = entryOf u .held .estimate }) =
+    ok-marks u h ∙ ap (λ (x : Cell). marksOf (record { cell = x; estimate = entryOf u .held .estimate })) (sym e)
+    in
+    let p : u .payload ≡ padded (bodyOf (withShortcut n c)) = ok-payload u h ∙ ap (λ (x : Cell). padded (bodyOf x)) (sym e) in
+    λ j. record { spot = u .spot; marks = m j; payload = p j }
 
-    us′ : List Slot
-    us′ = set us i u
+-- ---- a delta
 
-    next : suc (slotWidth * i + j) ≡ slotWidth * i + suc j
-    next = omega arith
+sixteen : (d : Delta) → length (take 16 (deltaWords d)) ≡ 16
+sixteen d = length-take-le 16 (deltaWords d) (omega (arith, length-deltaWords d))
 
-    whole′ : every isWhole us′ ≡ true
-    whole′ = every-set isWhole us i u whole (whole-set (getD us i []) j v (every-at isWhole us i [] h whole))
-
--- A slot's head of six words, and zeros after its body.
-padded-six : (a b c d e f : ℕ) (xs : List ℕ) (m : ℕ) → length xs ≡ m → padded (a ∷ b ∷ c ∷ d ∷ e ∷ f ∷ xs) ≡ a ∷ b ∷ c ∷ d ∷ e ∷ f ∷ (xs ++ replicate (slotWidth - suc (suc (suc (suc (suc (suc m)))))) 0)
-unfolding padded
-padded-six a b c d e f xs m h = ap (λ (n : ℕ). a ∷ b ∷ c ∷ d ∷ e ∷ f ∷ (xs ++ replicate (slotWidth - suc (suc (suc (suc (suc (suc n)))))) 0)) h
-
--- Four words stored after a delta's 17.
-four-after : (a b c d e f : ℕ) (xs ys vs : List ℕ) → length xs ≡ deltaWidth → length vs ≡ 4 → 4 ≤ length ys →
-    sets (a ∷ b ∷ c ∷ d ∷ e ∷ f ∷ (xs ++ ys)) deltaEnd vs ≡ a ∷ b ∷ c ∷ d ∷ e ∷ f ∷ (xs ++ (vs ++ drop 4 ys))
-four-after a b c d e f xs ys vs h l m =
-    sets-eq vs w deltaEnd (omega (arith, length-append xs ys))
-    ∙ append-assoc (take deltaEnd w) vs (drop (deltaEnd + length vs) w)
-    ∙ ap (λ (x : ℕ). take deltaEnd w ++ (vs ++ drop (deltaEnd + x) w)) l
-    ∙ ap₂ (λ (x y : List ℕ). a ∷ b ∷ c ∷ d ∷ e ∷ f ∷ (x ++ (vs ++ y))) (take-at xs ys deltaWidth h)
-    (sym (drop-drop 4 deltaWidth (xs ++ ys)) ∙ ap (drop 4) (drop-at xs ys deltaWidth h))
-  where
-    w : List ℕ
-    w = a ∷ b ∷ c ∷ d ∷ e ∷ f ∷ (xs ++ ys)
-
-module _ (k p n : ℕ) (estimate : Bool) (d : Delta) where
-  -- the slot with the shortcut
-  slot-with : slotOf (rowAt k p (record { cell = delta d (some n); estimate = estimate })) ≡ 1 ∷ k ∷ p ∷ 0 ∷ 2 ∷ flagOf estimate ∷ (deltaWords d ++ (digits 4 n ++ replicate 5 0))
-  unfolding slotOf formOf bodyOf rowAt
-  slot-with =
-      padded-six 1 k p 0 2 (flagOf estimate) (deltaWords d ++ digits 4 n) (deltaWidth + 4) (omega (arith, length-append (deltaWords d) (digits 4 n), length-deltaWords d, length-digits 4 n))
-      ∙ ap (λ (l : List ℕ). 1 ∷ k ∷ p ∷ 0 ∷ 2 ∷ flagOf estimate ∷ l) (append-assoc (deltaWords d) (digits 4 n) (replicate 5 0))
-
-  slot-shortcut : (m : Option ℕ) → sets (set (slotOf (rowAt k p (record { cell = delta d m; estimate = estimate }))) 4 2) deltaEnd (digits 4 n) ≡ slotOf (rowAt k p (record { cell = delta d (some n); estimate = estimate }))
-  unfolding slotOf formOf bodyOf rowAt
-  slot-shortcut none =
-      ap (λ (l : List ℕ). sets (set l 4 2) deltaEnd (digits 4 n)) (padded-six 1 k p 0 1 (flagOf estimate) (deltaWords d) deltaWidth (length-deltaWords d))
-      ∙ four-after 1 k p 0 2 (flagOf estimate) (deltaWords d) (replicate 9 0) (digits 4 n) (length-deltaWords d) (length-digits 4 n) (omega arith)
-      ∙ sym slot-with
-  slot-shortcut (some m) =
-      ap (λ (l : List ℕ). sets (set l 4 2) deltaEnd (digits 4 n))
-      (padded-six 1 k p 0 2 (flagOf estimate) (deltaWords d ++ digits 4 m) (deltaWidth + 4) (omega (arith, length-append (deltaWords d) (digits 4 m), length-deltaWords d, length-digits 4 m))
-      ∙ ap (λ (l : List ℕ). 1 ∷ k ∷ p ∷ 0 ∷ 2 ∷ flagOf estimate ∷ l) (append-assoc (deltaWords d) (digits 4 m) (replicate 5 0)))
-      ∙ four-after 1 k p 0 2 (flagOf estimate) (deltaWords d) (digits 4 m ++ replicate 5 0) (digits 4 n) (length-deltaWords d) (length-digits 4 n) (omega (arith, length-append (digits 4 m) (let z : List ℕ = replicate 5 0 in z), length-digits 4 m))
-      ∙ ap (λ (l : List ℕ). 1 ∷ k ∷ p ∷ 0 ∷ 2 ∷ flagOf estimate ∷ (deltaWords d ++ (digits 4 n ++ l))) (drop-at (digits 4 m) (replicate 5 0) 4 (length-digits 4 m))
-      ∙ sym slot-with
-
--- ---- words of a store
-
-unfoldable pub recorded : ℕ → Entry → Entry
-recorded n b = record { cell = withShortcut n (b .cell); estimate = b .estimate }
-
-shortcut-write : (i n : ℕ) (s : List ℕ) → getD s (slotWidth * i + 4) 0 ≡ 0 → shortcutIn i n s ≡ s
-unfolding shortcutIn
-shortcut-write i n s e = rw e
-
-shortcut-delta : (i n : ℕ) (s : List ℕ) → (getD s (slotWidth * i + 4) 0 ≡ 0 → ⊥) → shortcutIn i n s ≡ sets (set s (slotWidth * i + 4) 2) (slotWidth * i + deltaEnd) (digits 4 n)
-unfolding shortcutIn
-shortcut-delta i n s e = rw (ne-eqb (getD s (slotWidth * i + 4) 0) 0 e)
-
--- the same as the code leaves it, which tests the form
-module _ (s : List ℕ) (i n w : ℕ) (form : w ≡ getD s (slotWidth * i + 4) 0) where
-  pub record-left : w ≡ 0 → s ≡ shortcutIn i n s
-  record-left h = sym (shortcut-write i n s (sym form ∙ h))
-
-  pub record-done : (w ≡ 0 → ⊥) → (x after : List ℕ) → x ≡ set s (slotWidth * i + 4) 2 → after ≡ sets x (slotWidth * i + deltaEnd) (digits 4 n) → after ≡ shortcutIn i n s
-  record-done h x after e f =
-      f ∙ ap (λ (l : List ℕ). sets l (slotWidth * i + deltaEnd) (digits 4 n)) e ∙ sym (shortcut-delta i n s (λ z. h (form ∙ z)))
-
-form-delta : (d : Delta) (m : Option ℕ) → formOf (delta d m) ≡ 0 → ⊥
+no-form : (i : ℕ) (v : List ℕ) → formOf (write i v) ≡ 0
 unfolding formOf
-form-delta d none e = omega arith
-form-delta d (some n) e = omega arith
+no-form i v = refl
 
-form-write : (i : ℕ) (v : List ℕ) → formOf (write i v) ≡ 0
-unfolding formOf
-form-write i v = refl
+shortcut-marks : (n : ℕ) (b : Bool) (d : Delta) (m : Option ℕ) → marksOf (record { cell = delta d (some n); estimate = b }) ≡ 2 + 4 * (flagOf b + 2 * signOf (delta d m))
+unfolding marksOf formOf signOf
+shortcut-marks n b d m = omega arith
 
-pub record-some : (n : ℕ) (o : Option Entry) (b : Entry) → o ≡ some b → record-shortcut n o ≡ accept (response resolvedKind (digits 4 n)) (Rows.set (recorded n b))
-unfolding record-shortcut recorded
-record-some n o b e = rw e
+upper-marks : (n : ℕ) (b : Bool) (d : Delta) (m : Option ℕ) → 2 + 4 * (marksOf (record { cell = delta d m; estimate = b }) / 4) ≡ marksOf (record { cell = delta d (some n); estimate = b })
+upper-marks n b d m =
+    let f : marksOf (record { cell = delta d m; estimate = b }) / 4 ≡ flagOf b + 2 * signOf (delta d m) = marks-upper (record { cell = delta d m; estimate = b }) in
+    omega (arith, f, shortcut-marks n b d m)
 
-pub record-none : (n : ℕ) (o : Option Entry) → o ≡ none → record-shortcut n o ≡ refuse nothingThere
-unfolding record-shortcut
-record-none n o e = rw e
+delta-marks : (n : ℕ) (b : Bool) (c : Cell) → (formOf c ≡ 0 → ⊥) → 2 + 4 * (marksOf (record { cell = c; estimate = b }) / 4) ≡ marksOf (record { cell = withShortcut n c; estimate = b })
+unfolding withShortcut
+delta-marks n b (write i v) h = absurd (h (no-form i v))
+delta-marks n b (delta d m) h = upper-marks n b d m
 
-recorded-write : (n : ℕ) (b : Entry) (c : Cell) → b .cell ≡ c → (i : ℕ) (v : List ℕ) → c ≡ write i v → recorded n b ≡ b
-unfolding recorded withShortcut
-recorded-write n b c e i v f j = record { cell = (ap (withShortcut n) (e ∙ f) ∙ sym (e ∙ f)) j; estimate = b .estimate }
+-- the first sixteen words, and those after them
+first-words : (n : ℕ) (c : Cell) → (formOf c ≡ 0 → ⊥) → (j : ℕ) → j < 16 → getD (bodyOf c) j 0 ≡ getD (bodyOf (withShortcut n c)) j 0
+unfolding withShortcut bodyOf
+first-words n (write i v) h j l = absurd (h (no-form i v))
+first-words n (delta d none) h j l = sym (List·getD-append (take 16 (deltaWords d)) (digits 4 n) 0 j (omega (arith, sixteen d)))
+first-words n (delta d (some m)) h j l =
+    List·getD-append (take 16 (deltaWords d)) (digits 4 m) 0 j (omega (arith, sixteen d)) ∙ sym (List·getD-append (take 16 (deltaWords d)) (digits 4 n) 0 j (omega (arith, sixteen d)))
 
-module _ (s : List ℕ) (v : dataValid s ≡ true) (k p : ℕ) (b : Entry) (e : find k p (entriesIn s) ≡ some b) (n : ℕ) where
-  form-valid : getD s (slotWidth * rank k p (entriesIn s) + 4) 0 ≡ formOf (b .cell)
-  form-valid = word-valid s v k p b e 4 (omega arith) ∙ slot-form k p b
+last-words : (n : ℕ) (c : Cell) → (formOf c ≡ 0 → ⊥) → (j : ℕ) → 16 ≤ j → getD (digits 4 n) (j - 16) 0 ≡ getD (bodyOf (withShortcut n c)) j 0
+unfolding withShortcut bodyOf
+last-words n (write i v) h j l = absurd (h (no-form i v))
+last-words n (delta d m) h j l =
+    let e : length (take 16 (deltaWords d)) + (j - 16) ≡ j = omega (arith, sixteen d) in
+    sym (getD-append-add (take 16 (deltaWords d)) (digits 4 n) (j - 16) 0) ∙ ap (λ (x : ℕ). getD (take 16 (deltaWords d) ++ digits 4 n) x 0) e
 
-  -- the same entry put again
-  put-same : put k p b (entriesIn s) ≡ entriesIn s
-  put-same =
-      put-present k p (entriesIn s) (rising-valid s v) b e b
-      ∙ ap (set (entriesIn s) (rank k p (entriesIn s))) (sym (getD-rank k p (entriesIn s) (rising-valid s v) b e (rowAt k p b)))
-      ∙ set-getD (entriesIn s) (rank k p (entriesIn s)) (rowAt k p b)
+body-twenty : (n : ℕ) (c : Cell) → (formOf c ≡ 0 → ⊥) → length (bodyOf (withShortcut n c)) ≤ 20
+unfolding withShortcut bodyOf
+body-twenty n (write i v) h = absurd (h (no-form i v))
+body-twenty n (delta d m) h = omega (arith, length-append (take 16 (deltaWords d)) (digits 4 n), sixteen d, length-digits 4 n)
 
-  -- five words of the slot there
-  five-replaced : (a : Entry) → sets (set (slotOf (rowAt k p b)) 4 2) deltaEnd (digits 4 n) ≡ slotOf (rowAt k p a) →
-      sets (set s (slotWidth * rank k p (entriesIn s) + 4) 2) (slotWidth * rank k p (entriesIn s) + deltaEnd) (digits 4 n) ≡ holding s (put k p a (entriesIn s))
-  unfolding holding
-  five-replaced a f =
-      ap (λ (l : List ℕ). sets l (slotWidth * i + deltaEnd) (digits 4 n)) first
-      ∙ sets-encode (digits 4 n) s us′ whole′ (omega (arith, length-set us i u, slots-few s v k p)) i (omega (arith, length-set us i u, place-slots s v k p b e)) deltaEnd (omega (arith, length-digits 4 n))
-      ∙ ap (λ (x : Slot). encode s (set us′ i (sets x deltaEnd (digits 4 n)))) (getD-set-same us i u [] (place-slots s v k p b e))
-      ∙ ap (encode s) (set-set us i u (sets u deltaEnd (digits 4 n)))
-      ∙ ap (λ (x : Slot). encode s (set us i x)) f
-      ∙ ap (encode s) (put-slots s v k p b e a)
-    where
-      i : ℕ
-      i = rank k p (entriesIn s)
+module _ (s : List ℕ) (v : dataValid s ≡ true) (n : ℕ) (size : n ≡ unitsIn (length s)) (page i : ℕ) (t : IsRow s page i) (m : ℕ)
+    (marks : m ≡ getD (held 22 n s) (positionOf 22 n s page i) noRow .marks) (w : ℕ) where
+  abbrev u : StoreRow
+  u = rowFound s page i
 
-      us : List Slot
-      us = map slotOf (entriesIn s)
+  marks-are : m ≡ rowFound s page i .marks
+  marks-are = marks ∙ ap (λ (x : StoreRow). x .marks) (row-is s v n size page i t)
 
-      u : Slot
-      u = set (slotOf (rowAt k p b)) 4 2
+  -- a write is left as it is
+  pub shortcut-none : m % 4 ≡ 0 → PutOver s page i (shortcutEntry w (rowFound s page i)) s
+  shortcut-none z =
+      put-same s v n size page i t (shortcutEntry w u) (row-kept w u (found-fine s v n size page i t) (ap (λ (x : ℕ). x % 4) (sym marks-are) ∙ z))
 
-      us′ : List Slot
-      us′ = set us i u
+  pub shortcut-few : 2 + 4 * (m / 4) < 256
+  shortcut-few = omega (arith, marks-are, ok-few u (found-fine s v n size page i t))
 
-      first : set s (slotWidth * i + 4) 2 ≡ encode s us′
-      first =
-          ap (λ (l : List ℕ). set l (slotWidth * i + 4) 2) (encode-entries s v k p)
-          ∙ set-encode s us (slots-valid s v k p) (slots-few s v k p) i (place-slots s v k p b e) 4 2 (omega arith)
-          ∙ ap (λ (x : Slot). encode s (set us i (set x 4 2))) (slot-valid s v k p b e)
+  module _ (formed : m % 4 ≡ 0 → ⊥) (b : ℕ) (content : b ≡ contentOf 22 n s (positionOf 22 n s page i)) (x : List ℕ) (put : x ≡ sets s (b + 16) (digits 4 w)) where
+    form : formOf (entryOf u .held .cell) ≡ 0 → ⊥
+    form z = formed (ap (λ (k : ℕ). k % 4) marks-are ∙ row-form u (found-fine s v n size page i t) ∙ z)
 
-      whole-there : isWhole (slotOf (rowAt k p b)) ≡ true
-      whole-there = ap isWhole (sym (slot-valid s v k p b e)) ∙ every-at isWhole us i [] (place-slots s v k p b e) (slots-valid s v k p)
+    pub shortcut-rewritten : Rewritten false (contentOf 22 n s (positionOf 22 n s page i)) 20 s x
+    shortcut-rewritten =
+        rw content at (sets-rewritten b s x s (digits 4 w) (b + 16) (same-rewritten b s) (omega arith) (omega (arith, length-digits 4 w)) put)
 
-      whole′ : every isWhole us′ ≡ true
-      whole′ = every-set isWhole us i u (slots-valid s v k p) (whole-set (slotOf (rowAt k p b)) 4 2 whole-there)
+    words : (j : ℕ) → j < 20 → getD x (contentOf 22 n s (positionOf 22 n s page i) + j) 0 ≡ getD (bodyOf (withShortcut w (entryOf u .held .cell))) j 0
+    words j h = rw (← content, put) (go (decLt j 16))
+      where
+        go : Dec (j < 16) → getD (sets s (b + 16) (digits 4 w)) (b + j) 0 ≡ getD (bodyOf (withShortcut w (entryOf u .held .cell))) j 0
+        go (yes l) =
+            sets-under (digits 4 w) s (b + 16) (b + j) (omega arith) ∙ ap (λ (k : ℕ). getD s (k + j) 0) content ∙ row-word s v n size page i t j h
+            ∙ ap (λ (q : List ℕ). getD q j 0) (ok-payload u (found-fine s v n size page i t)) ∙ getD-padded (bodyOf (entryOf u .held .cell)) j
+            ∙ first-words w (entryOf u .held .cell) form j l
+        go (no l) =
+            let e : b + j ≡ b + 16 + (j - 16) = omega arith in
+            ap (λ (k : ℕ). getD (sets s (b + 16) (digits 4 w)) k 0) e
+            ∙ sets-within (digits 4 w) s (b + 16) (j - 16) (omega (arith, content, row-room s v n size page i t, length-digits 4 w)) (omega (arith, length-digits 4 w))
+            ∙ last-words w (entryOf u .held .cell) form j (omega arith)
 
-  slot-recorded : (d : Delta) (m : Option ℕ) → b .cell ≡ delta d m → sets (set (slotOf (rowAt k p b)) 4 2) deltaEnd (digits 4 n) ≡ slotOf (rowAt k p (recorded n b))
-  unfolding recorded withShortcut
-  slot-recorded d m f =
-      ap (λ (c : Cell). sets (set (slotOf (rowAt k p (record { cell = c; estimate = b .estimate }))) 4 2) deltaEnd (digits 4 n)) f
-      ∙ slot-shortcut k p n (b .estimate) d m
-      ∙ ap (λ (c : Cell). slotOf (rowAt k p (record { cell = withShortcut n c; estimate = b .estimate }))) (sym f)
-
-  shortcut-valid : (c : Cell) → b .cell ≡ c → shortcutIn (rank k p (entriesIn s)) n s ≡ holding s (put k p (recorded n b) (entriesIn s))
-  shortcut-valid (write i w) f =
-      shortcut-write (rank k p (entriesIn s)) n s (form-valid ∙ ap formOf f ∙ form-write i w)
-      ∙ sym (holding-entries s v)
-      ∙ ap (holding s) (sym put-same)
-      ∙ ap (λ (x : Entry). holding s (put k p x (entriesIn s))) (sym (recorded-write n b (write i w) f i w refl))
-  shortcut-valid (delta d m) f =
-      shortcut-delta (rank k p (entriesIn s)) n s (λ z. form-delta d m (sym (form-valid ∙ ap formOf f) ∙ z))
-      ∙ five-replaced (recorded n b) (slot-recorded d m f)
-
-  pub words-recorded : shortcutIn (rank k p (entriesIn s)) n s ≡ wordsAfter s k p (record-shortcut n (find k p (entriesIn s)))
-  unfolding edited
-  words-recorded =
-      shortcut-valid (b .cell) refl
-      ∙ sym
-      (ap (wordsAfter s k p) (record-some n (find k p (entriesIn s)) b e)
-      ∙ words-lack s k p (response resolvedKind (digits 4 n)) (Rows.set (recorded n b)) (lack-present s v k p b e (recorded n b)))
+    pub shortcut-put : (y : List ℕ) →
+        Left 22 false n (set (held 22 n x) (positionOf 22 n x page i) (marked (2 + 4 * (m / 4)) (getD (held 22 n x) (positionOf 22 n x page i) noRow))) x y →
+        PutOver s page i (shortcutEntry w (rowFound s page i)) y
+    unfolding shortcutEntry
+    shortcut-put y left =
+        put-both s v n size page i t x shortcut-rewritten (bodyOf (withShortcut w (entryOf u .held .cell))) (body-twenty w (entryOf u .held .cell) form) words (2 + 4 * (m / 4)) y left
+        (record { cell = withShortcut w (entryOf u .held .cell); estimate = entryOf u .held .estimate })
+        (ap (λ (k : ℕ). 2 + 4 * (k / 4)) (marks-are ∙ ok-marks u (found-fine s v n size page i t)) ∙ delta-marks w (entryOf u .held .estimate) (entryOf u .held .cell) form) refl

@@ -1,58 +1,76 @@
 -- A read from a bound: the place that the search finds is where the walk starts.
 -- Assumes nothing.
-use mathlib.Core.Path.{_≡_, refl, _∙_, ap}
+use mathlib.Core.Path.{_≡_, sym, _∙_, ap}
 use mathlib.Core.Bool.{true}
-use mathlib.Core.List.{List, [], _∷_}
-use Prim.Native.Nat.{ℕ, suc, _-_, _≤_, _<_}
+use mathlib.Core.List.{List, map, reverse}
+use Prim.Native.Nat.{ℕ, _-_, _<_}
 use native.Mathlib.Omega.{arith}
-use lib.ListN.{length, length-map}
-use Rattle.delta.specs.Delta.{validSoFar}
-use Rattle.delta.specs.Op.{exactly, accumulatorOf}
-use Rattle.delta.specs.declared.Accumulator.the-variants.{Empty}
+use lib.ListN.{length}
+use Rattle.lists.specs.Lists.{every, keep}
 use Rattle.types.specs.Index.{shift, shiftedOf, wordOf}
+use Rattle.types.specs.Units.{unitsIn}
 use Rattle.types.specs.declared.index.ShiftedTxnIndex.{ShiftedTxnIndex}
 use Rattle.types.specs.declared.output.MVDataOutput.{MVDataOutput}
-use Rattle.store.specs.Slots.{held, placeOf}
-use Rattle.model.specs.Rows.{Row, downFrom, rank, downAt}
-use Rattle.model.specs.Data.{Entry, walk, readOf}
-use Rattle.model.proofs.RowPlaces.{downAt-rank}
-use Rattle.versioned_data.specs.Layout.{entryOf, entriesIn, dataValid}
+use Rattle.types.specs.declared.output.MVDataOutput.the-variants.{Uninitialized}
+use Rattle.probe.specs.Cells.{countAbove}
+use Rattle.numbers.specs.Numbers.{Drops}
+use Rattle.store.specs.Held.{rowSpots}
+use Rattle.model.specs.Rows.{Row, downFrom}
+use Rattle.model.specs.Data.{Entry, readOf, walk, atEnd}
+use Rattle.versioned_data.specs.Layout.{StoreRow, spotOf, entryOf, rowsIn, entriesIn, rowOk, dataValid}
+use Rattle.versioned_data.specs.Down.{downRows}
+use Rattle.versioned_data.specs.Rows.{rowsOf, DataStore}
 use Rattle.versioned_data.specs.Output.{outputOf}
-use Rattle.versioned_data.proofs.EntriesHeld.{rising-valid}
-use Rattle.versioned_data.proofs.EntryFinds.{place-valid}
+use Rattle.versioned_data.proofs.RowsDown.{down-from}
+use Rattle.versioned_data.proofs.EntriesHeld.{every-ok, rows-here, rows-none, store-valid, spots-drop}
 
--- the walk starts with nothing gathered
-pub empty-canonical : Empty ≡ accumulatorOf (exactly Empty)
-unfolding exactly accumulatorOf
-empty-canonical = refl
+module _ (s : List ℕ) (v : dataValid s ≡ true) where
+  -- a store of no units
+  pub read-none : (n : ℕ) → n ≡ unitsIn (length s) → n ≡ 0 → (key reach : ℕ) → Uninitialized ≡ outputOf (readOf (downFrom key reach (entriesIn s)))
+  unfolding entriesIn readOf walk atEnd outputOf downFrom keep
+  read-none n e z key reach = rw (rows-none s v (sym e ∙ z))
 
-pub empty-valid : validSoFar (exactly Empty) ≡ true
-unfolding exactly validSoFar
-empty-valid = refl
+  module _ (n : ℕ) (e : n ≡ unitsIn (length s)) (z : n ≡ 0 → ⊥) where
+    some : 0 < unitsIn (length s)
+    some = omega arith
 
-pub read-walk : (rows : List (Row Entry)) (o : MVDataOutput) → o ≡ outputOf (walk (exactly Empty) rows) → o ≡ outputOf (readOf rows)
-unfolding readOf exactly
-read-walk rows o e = e
+    rows-are : rowsIn s ≡ rowsOf n s
+    rows-are = rows-here s v some ∙ ap (λ (k : ℕ). rowsOf k s) (sym e)
 
-pub within-entries : (s : List ℕ) (i : ℕ) → i ≤ length (held s) → i ≤ length (entriesIn s)
-unfolding entriesIn
-within-entries s i h = omega (arith, length-map (held s) entryOf)
+    pub data-store : DataStore n s
+    data-store = record { valid = rw e (store-valid s v some); fine = ap (every rowOk) (sym rows-are) ∙ every-ok s v }
 
-module _ (s : List ℕ) (v : dataValid s ≡ true) (key : ℕ) where
-  -- what the walk meets from there is what a reader sees
-  down-below : (bound : ℕ) → 0 < bound → downAt key (placeOf (1 ∷ key ∷ bound ∷ 0 ∷ []) (held s)) (entriesIn s) ≡ downFrom key (bound - 1) (entriesIn s)
-  down-below bound h =
-      let n : bound ≡ suc (bound - 1) = omega arith in
-      ap (λ (k : ℕ). downAt key k (entriesIn s)) (place-valid s v key bound ∙ ap (λ (k : ℕ). rank key k (entriesIn s)) n)
-      ∙ downAt-rank key (bound - 1) (entriesIn s) (rising-valid s v)
+    -- the same for a transaction's own index
+    pub read-seen : (key index : ℕ) → index < 4294967296 → (y : ℕ) → y ≡ spotOf key index → (found : ℕ) → found ≡ countAbove y (rowSpots (rowsOf n s)) →
+        (position : ℕ) → position ≡ found → downRows key position (rowsOf n s) ≡ downFrom key index (entriesIn s)
+    unfolding entriesIn
+    read-seen key index small y g found h position p =
+        let at : position ≡ countAbove (spotOf key index) (rowSpots (rowsOf n s)) = p ∙ h ∙ ap (λ (k : ℕ). countAbove k (rowSpots (rowsOf n s))) g in
+        let drops : Drops (rowSpots (rowsOf n s)) = rw (← rows-are) (spots-drop s v) in
+        let same : map entryOf (reverse (rowsOf n s)) ≡ map entryOf (reverse (rowsIn s)) = ap (λ (l : List StoreRow). map entryOf (reverse l)) (sym rows-are) in
+        ap (λ (k : ℕ). downRows key k (rowsOf n s)) at
+        ∙ down-from key index small (rowsOf n s) drops
+        ∙ ap (λ (l : List (Row Entry)). downFrom key index l) same
 
-  pub read-found : (bound : ShiftedTxnIndex) → 0 < wordOf bound → (w : ℕ) → w ≡ wordOf bound → (i : ℕ) → i ≡ placeOf (1 ∷ key ∷ w ∷ 0 ∷ []) (held s) → (o : MVDataOutput) → o ≡ outputOf (readOf (downAt key i (entriesIn s))) → o ≡ outputOf (readOf (downFrom key (wordOf bound - 1) (entriesIn s)))
-  read-found bound h w e i p o f =
-      f ∙ ap (λ (l : List (Row Entry)). outputOf (readOf l)) (ap (λ (k : ℕ). downAt key k (entriesIn s)) (p ∙ ap (λ (k : ℕ). placeOf (1 ∷ key ∷ k ∷ 0 ∷ []) (held s)) e) ∙ down-below (wordOf bound) h)
+    -- what the walk meets from the place that was found is what a reader sees
+    pub read-found : (key : ℕ) (bound : ShiftedTxnIndex) → wordOf bound < 4294967296 → (w : ℕ) → w ≡ wordOf bound → (y : ℕ) → y ≡ spotOf key (w - 1) → (found : ℕ) →
+        found ≡ countAbove y (rowSpots (rowsOf n s)) → (position : ℕ) → position ≡ found → (o : MVDataOutput) → o ≡ outputOf (readOf (downRows key position (rowsOf n s))) →
+        o ≡ outputOf (readOf (downFrom key (wordOf bound - 1) (entriesIn s)))
+    unfolding entriesIn
+    read-found key bound small w f y g found h position p o t =
+        let reach : y ≡ spotOf key (wordOf bound - 1) = g ∙ ap (λ (k : ℕ). spotOf key (k - 1)) f in
+        let at : position ≡ countAbove (spotOf key (wordOf bound - 1)) (rowSpots (rowsOf n s)) = p ∙ h ∙ ap (λ (k : ℕ). countAbove k (rowSpots (rowsOf n s))) reach in
+        let drops : Drops (rowSpots (rowsOf n s)) = rw (← rows-are) (spots-drop s v) in
+        let same : map entryOf (reverse (rowsOf n s)) ≡ map entryOf (reverse (rowsIn s)) = ap (λ (l : List StoreRow). map entryOf (reverse l)) (sym rows-are) in
+        t
+        ∙ ap (λ (k : ℕ). outputOf (readOf (downRows key k (rowsOf n s)))) at
+        ∙ ap (λ (l : List (Row Entry)). outputOf (readOf l)) (down-from key (wordOf bound - 1) (omega arith) (rowsOf n s) drops)
+        ∙ ap (λ (l : List (Row Entry)). outputOf (readOf (downFrom key (wordOf bound - 1) l))) same
 
   -- the bound of a transaction's read is its shifted index
-  pub read-by : (index : ℕ) (bound : ShiftedTxnIndex) → bound ≡ shiftedOf (shift index) → (o : MVDataOutput) → o ≡ outputOf (readOf (downFrom key (wordOf bound - 1) (entriesIn s))) → o ≡ outputOf (readOf (downFrom key index (entriesIn s)))
-  read-by index bound e o f =
+  pub read-by : (key index : ℕ) (bound : ShiftedTxnIndex) → bound ≡ shiftedOf (shift index) → (o : MVDataOutput) →
+      o ≡ outputOf (readOf (downFrom key (wordOf bound - 1) (entriesIn s))) → o ≡ outputOf (readOf (downFrom key index (entriesIn s)))
+  read-by key index bound e o f =
       let n : wordOf bound - 1 ≡ index = omega (arith, ap wordOf e) in
       f ∙ ap (λ (k : ℕ). outputOf (readOf (downFrom key k (entriesIn s)))) n
 

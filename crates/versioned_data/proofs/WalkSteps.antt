@@ -1,265 +1,405 @@
--- The walk step by step: what stands in a slot decides the step, and the steps are the walk.
+-- The walk step by step: the marks of the row that is met decide the step, and the steps are the walk.
 -- Assumes nothing.
 use mathlib.Core.Path.{_≡_, refl, sym, _∙_, ap}
-use mathlib.Core.Bool.{true, false, cond, not, _&&_}
-use mathlib.Core.List.{List, [], _∷_}
-use Prim.Native.Nat.{ℕ, zero, suc, _+_, _-_, _*_, _≤_, _<_}
+use mathlib.Core.Bool.{Bool, true, false}
+use mathlib.Core.List.{List, [], _∷_, _++_}
+use Prim.Native.Nat.{ℕ, zero, suc, _+_, _-_, _/_, _%_, _≤_, _<_}
 use native.Mathlib.Omega.{arith}
-use native.Mathlib.Decide.{ℕ-discrete}
-use lib.Dec.{leb, eqb}
-use lib.ListN.{length, getD, take, drop, length-map}
-use borrow.Author.Tests.{eq-eqb, ne-eqb}
+use native.Mathlib.Decide.{ℕ-discrete, decLt}
+use lib.Dec.{ltb, eqb}
+use lib.ListN.{length, getD, take, drop}
+use lib.Seq.{take-take}
+use borrow.Author.Tests.{lt-ltb, le-ltb, eq-eqb, ne-eqb}
 use Rattle.lists.specs.Lists.{every}
-use Rattle.lists.proofs.Bools.{and-left, and-right}
 use Rattle.lists.proofs.Lists.{every-at}
 use Rattle.number.specs.Number.{valueOf, numberOf}
-use Rattle.number.specs.Words.{valueOfWords, AreWords}
+use Rattle.number.specs.Words.{valueOfWords}
 use Rattle.number.specs.declared.Number.{Number}
 use Rattle.number.proofs.Halves.{valueOf-numberOf}
-use Rattle.delta.specs.Delta.{deltaWidth, Accumulated, accumulate, validSoFar, deltaAt, deltaOk}
+use Rattle.delta.specs.Delta.{Delta, Accumulated, nothing, accumulate, validSoFar, deltaAt, deltaOk}
 use Rattle.delta.specs.Op.{exact, exactly, accumulatorOf, opAt, validOp}
 use Rattle.delta.specs.declared.DeltaOp.{DeltaOp}
 use Rattle.delta.specs.declared.Accumulator.{Accumulator}
 use Rattle.delta.specs.declared.Accumulator.the-variants.{Empty}
-use Rattle.delta.proofs.DeltaOps.{exact-opAt, validOp-opAt, validOp-valid, exactly-accumulatorOf}
+use Rattle.delta.proofs.DeltaOps.{exact-opAt, validOp-opAt, exactly-accumulatorOf}
 use Rattle.delta.proofs.DeltaMerges.{accumulate-valid}
 use Rattle.types.specs.Index.{shiftedOf, wordOf}
-use Rattle.types.specs.Value.{valueWidth, valueAt}
+use Rattle.types.specs.Value.{valueAt}
+use Rattle.types.specs.ValueWithLayout.{valueFrom}
 use Rattle.types.specs.declared.index.ShiftedTxnIndex.{ShiftedTxnIndex}
+use Rattle.types.specs.declared.value.ValueWithLayout.{ValueWithLayout}
 use Rattle.types.specs.declared.output.MVDataOutput.{MVDataOutput}
-use Rattle.store.specs.Slots.{Slot, slotWidth, slotsIn, slotAt, held, packed, allZero, padded, sameWords}
-use Rattle.store.proofs.StoreWords.{slotAt-part, slotAt-word}
-use Rattle.store.proofs.ZeroWords.{same-words}
-use Rattle.model.specs.Rows.{Row, downAt}
-use Rattle.model.specs.Fine.{fineEntry}
-use Rattle.model.specs.Data.{Entry, Read, dependency, atEnd, atWrite, atCell, atRow, past, onto, walk, readOf}
-use Rattle.model.proofs.RowPlaces.{downAt-zero, downAt-suc}
-use Rattle.versioned_data.specs.Layout.{valueStart, deltaStart, deltaEnd, formOf, slotOf, cellOf, entryOf, entriesIn, dataValid, slotOk, bodyTest, slotTest}
+use Rattle.types.specs.declared.output.MVDataOutput.the-variants.{Versioned}
+use Rattle.store.specs.Held.{held, contentOf, noRow}
+use Rattle.store.specs.Valid.{Stands, There}
+use Rattle.store.proofs.Contents.{held-units}
+use Rattle.store.proofs.Reading.{position-held}
+use Rattle.model.specs.Rows.{Row}
+use Rattle.model.specs.Data.{Entry, Read, versioned, dependency, atEnd, atWrite, onto, walk, readOf}
+use Rattle.versioned_data.specs.Layout.{payloadWidth, StoreRow, formOf, deltaIn, cellOf, entryOf, rowOk}
+use Rattle.versioned_data.specs.Down.{downRows}
+use Rattle.versioned_data.specs.Rows.{rowsOf, DataStore, positionIn, Met}
 use Rattle.versioned_data.specs.Output.{outputOf}
-use Rattle.versioned_data.specs.Step.{noForm, formMet}
-use Rattle.versioned_data.proofs.EntryPositions.{held-at, entry-at, at-few}
-use Rattle.versioned_data.proofs.ScanSlots.{valid-slots}
-use Rattle.versioned_data.proofs.ScanSlotWords.{slotOk-at}
+use Rattle.versioned_data.specs.Step.{noMarks, marksMet, goesOn, deltasIn, stopped}
+use Rattle.versioned_data.proofs.RowsDown.{down-end, down-other, down-here}
+use Rattle.versioned_data.proofs.RowParts.{form-small, row-form, row-delta-valid, row-delta-ok, step-estimate, step-write, step-delta, step-shortcut}
+use Rattle.versioned_data.proofs.ContentWords.{part-of, word-of, value-of, content-inside, payload-is}
 
-module _ (s : List ℕ) (v : dataValid s ≡ true) (j : ℕ) (h : j < length (entriesIn s)) where
-  slot-ok : slotOk (slotAt j s) ≡ true
-  unfolding entriesIn
-  slot-ok =
-      ap slotOk (sym (held-at s j h))
-      ∙ every-at slotOk (held s) j [] (omega (arith, length-map (held s) entryOf))
-      (and-right (packed s) (every slotOk (held s)) (sym (valid-slots s) ∙ v))
+-- ---- the row at a position
 
-  -- the form's word is the form
-  form-word : formOf (cellOf (getD (slotAt j s) 4 0) (slotAt j s)) ≡ getD (slotAt j s) 4 0
-  unfolding slotOk slotOf entryOf padded
-  form-word = ap (λ (l : List ℕ). getD l 4 0) (same-words _ _ (and-right (fineEntry (entryOf (slotAt j s))) (sameWords (slotOf (entryOf (slotAt j s))) (slotAt j s)) slot-ok))
+module _ (key c : ℕ) (rows : List StoreRow) where
+  abbrev row : StoreRow
+  row = getD rows c noRow
 
--- a form that is neither a write's nor a delta's is a shortcut's
-cell-shortcut : (a : Accumulated) (place n : ℕ) (u : Slot) (lower : Read) → (n ≡ 0 → ⊥) → (n ≡ 1 → ⊥) → atCell a place (cellOf n u) lower ≡ onto a (valueOfWords (take 4 (drop deltaEnd u)))
-unfolding cellOf atCell
-cell-shortcut a place zero u lower e f = absurd (e refl)
-cell-shortcut a place (suc zero) u lower e f = absurd (f refl)
-cell-shortcut a place (suc (suc n)) u lower e f = refl
+  pub met-none : (ltb c (length rows) ≡ false) → noMarks ≡ marksMet key c rows
+  unfolding marksMet
+  met-none e = rw e
 
-module _ (s : List ℕ) (key j : ℕ) (h : j < length (entriesIn s)) where
-  -- the word n of the slot
-  slot-word : (n : ℕ) → n < slotWidth → getD (slotAt j s) n 0 ≡ getD s (slotWidth * j + n) 0
-  slot-word n l = slotAt-word j n s l
-
-  -- the entry has another key: none is left
-  down-other : (getD s (slotWidth * j + 1) 0 ≡ key → ⊥) → downAt key (suc j) (entriesIn s) ≡ []
-  unfolding entryOf
-  down-other o =
-      let e : eqb (getD (slotAt j s) 1 0) key ≡ false = rw (slot-word 1 (omega arith)) (ne-eqb (getD s (slotWidth * j + 1) 0) key o) in
-      rw (downAt-suc key j (entriesIn s) (entryOf []) h, entry-at s j h, e)
-
-  module _ (same : getD s (slotWidth * j + 1) 0 ≡ key) where
-    down-here : downAt key (suc j) (entriesIn s) ≡ entryOf (slotAt j s) ∷ downAt key j (entriesIn s)
-    unfolding entryOf
-    down-here =
-        let e : eqb (getD (slotAt j s) 1 0) key ≡ true = rw (slot-word 1 (omega arith)) (eq-eqb (getD s (slotWidth * j + 1) 0) key same) in
-        rw (downAt-suc key j (entriesIn s) (entryOf []) h, entry-at s j h, e)
-
-    module _ (a : Accumulated) where
-      step-estimate : getD s (slotWidth * j + 5) 0 ≡ 1 → walk a (downAt key (suc j) (entriesIn s)) ≡ dependency (getD s (slotWidth * j + 2) 0 - 1)
-      unfolding entryOf walk atRow
-      step-estimate e =
-          let f : eqb (getD (slotAt j s) 5 0) 1 ≡ true = rw (slot-word 5 (omega arith)) (eq-eqb (getD s (slotWidth * j + 5) 0) 1 e) in
-          rw (down-here, f, slot-word 2 (omega arith))
-
-      module _ (done : getD s (slotWidth * j + 5) 0 ≡ 1 → ⊥) where
-        lower : Read
-        lower = walk (past a (cellOf (getD s (slotWidth * j + 4) 0) (slotAt j s))) (downAt key j (entriesIn s))
-
-        step-cell : walk a (downAt key (suc j) (entriesIn s)) ≡ atCell a (getD s (slotWidth * j + 2) 0) (cellOf (getD s (slotWidth * j + 4) 0) (slotAt j s)) lower
-        unfolding entryOf walk atRow lower
-        step-cell =
-            let f : eqb (getD (slotAt j s) 5 0) 1 ≡ false = rw (slot-word 5 (omega arith)) (ne-eqb (getD s (slotWidth * j + 5) 0) 1 done) in
-            rw (down-here, f, slot-word 2 (omega arith), slot-word 4 (omega arith))
-
-        step-write : getD s (slotWidth * j + 4) 0 ≡ 0 → walk a (downAt key (suc j) (entriesIn s)) ≡ atWrite a (getD s (slotWidth * j + 2) 0) (getD s (slotWidth * j + 6) 0) (valueAt (slotWidth * j + valueStart) s)
-        unfolding cellOf atCell valueAt
-        step-write e = step-cell ∙ rw (e, slot-word 6 (omega arith), slotAt-part j valueStart valueWidth s (omega arith))
-
-        step-shortcut : (getD s (slotWidth * j + 4) 0 ≡ 0 → ⊥) → (getD s (slotWidth * j + 4) 0 ≡ 1 → ⊥) → walk a (downAt key (suc j) (entriesIn s)) ≡ onto a (valueOfWords (take 4 (drop (slotWidth * j + deltaEnd) s)))
-        step-shortcut e f =
-            step-cell ∙ cell-shortcut a (getD s (slotWidth * j + 2) 0) (getD s (slotWidth * j + 4) 0) (slotAt j s) lower e f
-            ∙ ap (λ (l : List ℕ). onto a (valueOfWords l)) (slotAt-part j deltaEnd 4 s (omega arith))
-
-        step-delta : getD s (slotWidth * j + 4) 0 ≡ 1 → walk a (downAt key (suc j) (entriesIn s)) ≡ walk (accumulate a (deltaAt (take deltaWidth (drop (slotWidth * j + deltaStart) s)))) (downAt key j (entriesIn s))
-        unfolding cellOf atCell past lower
-        step-delta e = step-cell ∙ rw (e, slotAt-part j deltaStart deltaWidth s (omega arith))
-
--- what is met at the entry
-form-here : (s : List ℕ) → dataValid s ≡ true → (key j : ℕ) → j < length (entriesIn s) → getD s (slotWidth * j + 1) 0 ≡ key →
-    formMet (downAt key (suc j) (entriesIn s)) ≡ cond (eqb (getD s (slotWidth * j + 5) 0) 1) noForm (getD s (slotWidth * j + 4) 0)
-unfolding entryOf formMet
-form-here s v key j h same = rw (down-here s key j h same, form-word s v j h, slotAt-word j 5 s (omega arith), slotAt-word j 4 s (omega arith))
-
--- ---- the same from a position on the way down, by what its slot's words were found to be
-
--- where no entry is left
-pub none-form : (key i : ℕ) (rows : List (Row Entry)) → i ≡ 0 → noForm ≡ formMet (downAt key i rows)
-unfolding formMet
-none-form key i rows z = rw (z, downAt-zero key rows)
-
-pub stop-none : (acc : Accumulator) (key i : ℕ) (rows : List (Row Entry)) → i ≡ 0 → (o : MVDataOutput) → o ≡ outputOf (atEnd (exactly acc)) → o ≡ outputOf (walk (exactly acc) (downAt key i rows))
-unfolding walk
-stop-none acc key i rows z o e = rw (z, downAt-zero key rows) e
-
-module _ (s : List ℕ) (i : ℕ) (p : i ≡ 0 → ⊥) (h : i ≤ length (entriesIn s)) where
-  pub last-inside : i - 1 < length (entriesIn s)
-  last-inside = omega arith
-
-  pub last-few : i - 1 < slotsIn (length s)
-  last-few = at-few s (i - 1) last-inside
-
-  -- the entry before i
-  last-is : i ≡ suc (i - 1)
-  last-is = omega arith
-
-  module _ (key found : ℕ) (k : found ≡ getD s (slotWidth * (i - 1) + 1) 0) where
-    other-down : (found ≡ key → ⊥) → downAt key i (entriesIn s) ≡ []
-    other-down other = ap (λ (n : ℕ). downAt key n (entriesIn s)) last-is ∙ down-other s key (i - 1) last-inside (λ t. other (k ∙ t))
-
-    pub other-form : (found ≡ key → ⊥) → noForm ≡ formMet (downAt key i (entriesIn s))
-    unfolding formMet
-    other-form other = rw (other-down other)
-
-    pub stop-other : (acc : Accumulator) → (found ≡ key → ⊥) → (o : MVDataOutput) → o ≡ outputOf (atEnd (exactly acc)) → o ≡ outputOf (walk (exactly acc) (downAt key i (entriesIn s)))
-    unfolding walk
-    stop-other acc other o e = rw (other-down other) e
-
-    module _ (same : found ≡ key) (flag : ℕ) (b : flag ≡ getD s (slotWidth * (i - 1) + 5) 0) where
-      form-is : dataValid s ≡ true → formMet (downAt key i (entriesIn s)) ≡ cond (eqb flag 1) noForm (getD s (slotWidth * (i - 1) + 4) 0)
-      form-is v =
-          ap (λ (n : ℕ). formMet (downAt key n (entriesIn s))) last-is ∙ form-here s v key (i - 1) last-inside (sym k ∙ same)
-          ∙ ap (λ (n : ℕ). cond (eqb n 1) noForm (getD s (slotWidth * (i - 1) + 4) 0)) (sym b)
-
-      pub estimate-form : dataValid s ≡ true → flag ≡ 1 → noForm ≡ formMet (downAt key i (entriesIn s))
-      estimate-form v f = sym (form-is v ∙ rw (eq-eqb flag 1 f))
-
-      pub done-form : dataValid s ≡ true → (flag ≡ 1 → ⊥) → (form : ℕ) → form ≡ getD s (slotWidth * (i - 1) + 4) 0 → form ≡ formMet (downAt key i (entriesIn s))
-      done-form v done form m = m ∙ sym (form-is v ∙ rw (ne-eqb flag 1 done))
-
-      module _ (acc : Accumulator) (place : ℕ) (q : place ≡ getD s (slotWidth * (i - 1) + 2) 0) (shifted : ShiftedTxnIndex) (t : shifted ≡ shiftedOf place) where
-        place-is : getD s (slotWidth * (i - 1) + 2) 0 ≡ wordOf shifted
-        place-is = sym q ∙ ap wordOf (sym t)
-
-        -- what the walk answers at the entry before i
-        from-last : (r : Read) → walk (exactly acc) (downAt key (suc (i - 1)) (entriesIn s)) ≡ r → (o : MVDataOutput) → o ≡ outputOf r → o ≡ outputOf (walk (exactly acc) (downAt key i (entriesIn s)))
-        from-last r e o g = g ∙ ap outputOf (sym e ∙ ap (λ (n : ℕ). walk (exactly acc) (downAt key n (entriesIn s))) (sym last-is))
-
-        pub stop-estimate : flag ≡ 1 → (o : MVDataOutput) → o ≡ outputOf (dependency (wordOf shifted - 1)) → o ≡ outputOf (walk (exactly acc) (downAt key i (entriesIn s)))
-        stop-estimate f o e =
-            from-last (dependency (wordOf shifted - 1))
-            (step-estimate s key (i - 1) last-inside (sym k ∙ same) (exactly acc) (sym b ∙ f) ∙ ap (λ (n : ℕ). dependency (n - 1)) place-is) o e
-
-        module _ (done : flag ≡ 1 → ⊥) (form : ℕ) (m : form ≡ getD s (slotWidth * (i - 1) + 4) 0) where
-          pub stop-write : form ≡ 0 → (o : MVDataOutput) → o ≡ outputOf (atWrite (exactly acc) (wordOf shifted) (getD s (slotWidth * (i - 1) + 6) 0) (valueAt (slotWidth * (i - 1) + valueStart) s)) → o ≡ outputOf (walk (exactly acc) (downAt key i (entriesIn s)))
-          stop-write f o e =
-              from-last (atWrite (exactly acc) (wordOf shifted) (getD s (slotWidth * (i - 1) + 6) 0) (valueAt (slotWidth * (i - 1) + valueStart) s))
-              (step-write s key (i - 1) last-inside (sym k ∙ same) (exactly acc) (λ g. done (b ∙ g)) (sym m ∙ f)
-              ∙ ap (λ (n : ℕ). atWrite (exactly acc) n (getD s (slotWidth * (i - 1) + 6) 0) (valueAt (slotWidth * (i - 1) + valueStart) s)) place-is)
-              o e
-
-          pub stop-shortcut : dataValid s ≡ true → (formMet (downAt key i (entriesIn s)) ≡ 1 → ⊥) → (form ≡ 0 → ⊥) → (n : Number) → n ≡ numberOf (valueOfWords (take 4 (drop (slotWidth * (i - 1) + deltaEnd) s))) → (o : MVDataOutput) → o ≡ outputOf (onto (exactly acc) (valueOf n)) → o ≡ outputOf (walk (exactly acc) (downAt key i (entriesIn s)))
-          stop-shortcut v stops f n r o e =
-              let there : valueOf n ≡ valueOfWords (take 4 (drop (slotWidth * (i - 1) + deltaEnd) s)) = ap valueOf r ∙ valueOf-numberOf (valueOfWords (take 4 (drop (slotWidth * (i - 1) + deltaEnd) s))) in
-              let alone : form ≡ 1 → ⊥ = λ g. stops (sym (done-form v done form m) ∙ g) in
-              from-last (onto (exactly acc) (valueOf n))
-              (step-shortcut s key (i - 1) last-inside (sym k ∙ same) (exactly acc) (λ x. done (b ∙ x)) (λ x. f (m ∙ x)) (λ x. alone (m ∙ x))
-              ∙ ap (onto (exactly acc)) (sym there))
-              o e
-
--- ---- what is known of the entry before a position by the form that is met
-
-module _ (s : List ℕ) (v : dataValid s ≡ true) (key i : ℕ) (h : i ≤ length (entriesIn s)) (r : ℕ) (met : r ≡ formMet (downAt key i (entriesIn s))) (n : ℕ) (is : r ≡ n) (few : n < noForm) where
-  pub met-pos : i ≡ 0 → ⊥
-  met-pos z = let e : noForm ≡ r = none-form key i (entriesIn s) z ∙ sym met in omega arith
-
-  met-same : getD s (slotWidth * (i - 1) + 1) 0 ≡ key
-  met-same = go (ℕ-discrete (getD s (slotWidth * (i - 1) + 1) 0) key)
+  pub met-other : (found : ℕ) → found ≡ row .spot / 4294967296 → (found ≡ key → ⊥) → noMarks ≡ marksMet key c rows
+  unfolding marksMet
+  met-other found e n = go (ltb c (length rows)) refl
     where
-      go : Dec (getD s (slotWidth * (i - 1) + 1) 0 ≡ key) → getD s (slotWidth * (i - 1) + 1) 0 ≡ key
-      go (yes e) = e
-      go (no o) = absurd (let e : noForm ≡ r = other-form s i met-pos h key _ refl o ∙ sym met in omega arith)
+      go : (b : Bool) → ltb c (length rows) ≡ b → noMarks ≡ marksMet key c rows
+      go true f = rw (f, ne-eqb (row .spot / 4294967296) key (λ g. n (e ∙ g)))
+      go false f = rw f
 
-  met-done : getD s (slotWidth * (i - 1) + 5) 0 ≡ 1 → ⊥
-  met-done f = let e : noForm ≡ r = estimate-form s i met-pos h key _ refl met-same _ refl v f ∙ sym met in omega arith
+  pub met-row : ltb c (length rows) ≡ true → (found : ℕ) → found ≡ row .spot / 4294967296 → found ≡ key → (m : ℕ) → m ≡ row .marks → m ≡ marksMet key c rows
+  unfolding marksMet
+  met-row h found e k m f = rw (h, eq-eqb (row .spot / 4294967296) key (sym e ∙ k)) f
 
-  pub met-form : getD s (slotWidth * (i - 1) + 4) 0 ≡ n
-  met-form = done-form s i met-pos h key _ refl met-same _ refl v met-done _ refl ∙ sym met ∙ is
+  -- what marks that are met tell
+  pub record There-is (m : ℕ) : Type 0 where
+    pub inside : c < length rows
+    pub same : row .spot / 4294967296 ≡ key
+    pub marks : m ≡ row .marks
 
-  -- a write: the read ends there
-  pub read-write : n ≡ 0 → (place : ℕ) → place ≡ getD s (slotWidth * (i - 1) + 2) 0 → (shifted : ShiftedTxnIndex) → shifted ≡ shiftedOf place → (o : MVDataOutput) →
-      o ≡ outputOf (atWrite (exactly Empty) (wordOf shifted) (getD s (slotWidth * (i - 1) + 6) 0) (valueAt (slotWidth * (i - 1) + valueStart) s)) →
-      o ≡ outputOf (readOf (downAt key i (entriesIn s)))
-  unfolding readOf exactly
-  read-write z place q shifted t o e = stop-write s i met-pos h key _ refl met-same _ refl Empty place q shifted t met-done _ refl (met-form ∙ z) o e
+  pub met-there : (m : ℕ) → m ≡ marksMet key c rows → (m ≡ noMarks → ⊥) → There-is m
+  unfolding marksMet
+  met-there m e n = go (decLt c (length rows)) (ℕ-discrete (row .spot / 4294967296) key)
+    where
+      go : Dec (c < length rows) → Dec (row .spot / 4294967296 ≡ key) → There-is m
+      go (yes h) (yes k) =
+          let f : m ≡ row .marks = e ∙ rw (lt-ltb c (length rows) h, eq-eqb (row .spot / 4294967296) key k) in
+          record { inside = h; same = k; marks = f }
+      go (yes h) (no k) =
+          let f : m ≡ noMarks = e ∙ rw (lt-ltb c (length rows) h, ne-eqb (row .spot / 4294967296) key k) in
+          absurd (n f)
+      go (no h) k = let f : m ≡ noMarks = e ∙ rw (le-ltb c (length rows) (omega arith)) in absurd (n f)
 
-  -- a delta: the walk goes on
-  module _ (one : n ≡ 1) (acc : Accumulator) (op : DeltaOp) (told : op ≡ opAt (take deltaWidth (drop (slotWidth * (i - 1) + deltaStart) s))) (next : Accumulator) (e : next ≡ accumulatorOf (accumulate (exactly acc) (exact op))) where
-    next-is : exactly next ≡ accumulate (exactly acc) (exact op)
-    next-is = ap exactly e ∙ exactly-accumulatorOf (accumulate (exactly acc) (exact op))
+  pub met-end : every rowOk rows ≡ true → noMarks ≡ marksMet key c rows → downRows key c rows ≡ []
+  unfolding marksMet
+  met-end fine e = go (decLt c (length rows)) (ℕ-discrete (row .spot / 4294967296) key)
+    where
+      go : Dec (c < length rows) → Dec (row .spot / 4294967296 ≡ key) → downRows key c rows ≡ []
+      go (yes h) (yes k) =
+          let f : noMarks ≡ row .marks = e ∙ rw (lt-ltb c (length rows) h, eq-eqb (row .spot / 4294967296) key k) in
+          let ok : rowOk row ≡ true = every-at rowOk rows c noRow h fine in
+          absurd (omega (arith, row-form row ok, form-small (entryOf row .held .cell)))
+      go (yes h) (no k) = down-other key c rows h k
+      go (no h) k = down-end key c rows (omega arith)
 
-    pub deeper-canonical : next ≡ accumulatorOf (exactly next)
-    deeper-canonical = e ∙ ap accumulatorOf (sym next-is)
+  module _ (fine : every rowOk rows ≡ true) (m : ℕ) (e : m ≡ marksMet key c rows) where
+    pub met-fine : (m ≡ noMarks → ⊥) → rowOk row ≡ true
+    met-fine n = every-at rowOk rows c noRow (met-there m e n .inside) fine
 
-    pub deeper-valid : validSoFar (exactly acc) ≡ true → validOp op ≡ true → validSoFar (exactly next) ≡ true
-    deeper-valid ok v = ap validSoFar next-is ∙ accumulate-valid (exactly acc) (exact op) ok (validOp-valid op v)
+    -- where the walk stops, what is below does not matter
+    alone : (a : Accumulated) (rest : List (Row Entry)) → rowOk row ≡ true → (row .marks % 8 ≡ 1 → ⊥) → walk a (entryOf row ∷ rest) ≡ walk a (entryOf row ∷ [])
+    alone a rest ok n = go (ℕ-discrete (row .marks / 4 % 2) 1) (ℕ-discrete (row .marks) 0)
+      where
+        go : Dec (row .marks / 4 % 2 ≡ 1) → Dec (row .marks ≡ 0) → walk a (entryOf row ∷ rest) ≡ walk a (entryOf row ∷ [])
+        go (yes f) d = step-estimate a row rest f ∙ sym (step-estimate a row [] f)
+        go (no f) (yes d) = step-write a row rest d ∙ sym (step-write a row [] d)
+        go (no f) (no d) = step-shortcut a row rest ok f n d ∙ sym (step-shortcut a row [] ok f n d)
 
-    pub deeper-walk : (o : MVDataOutput) → o ≡ outputOf (walk (exactly next) (downAt key (i - 1) (entriesIn s))) → o ≡ outputOf (walk (exactly acc) (downAt key i (entriesIn s)))
-    deeper-walk o g =
-        let there : exact op ≡ deltaAt (take deltaWidth (drop (slotWidth * (i - 1) + deltaStart) s)) = ap exact told ∙ exact-opAt (take deltaWidth (drop (slotWidth * (i - 1) + deltaStart) s)) in
-        g
-        ∙ ap outputOf
-        (ap (λ (x : Accumulated). walk x (downAt key (i - 1) (entriesIn s))) (next-is ∙ ap (accumulate (exactly acc)) there)
-        ∙ sym (step-delta s key (i - 1) (last-inside s i met-pos h) met-same (exactly acc) met-done (met-form ∙ one))
-        ∙ ap (λ (n : ℕ). walk (exactly acc) (downAt key n (entriesIn s))) (sym (last-is s i met-pos h)))
+    pub stops : (a : Accumulated) → (m % 8 ≡ 1 → ⊥) → walk a (downRows key c rows) ≡ stopped a m row
+    unfolding stopped walk
+    stops a n = go (ℕ-discrete m noMarks)
+      where
+        go : Dec (m ≡ noMarks) → walk a (downRows key c rows) ≡ stopped a m row
+        go (yes f) = rw (met-end fine (sym f ∙ e), eq-eqb m noMarks f)
+        go (no f) =
+            let t = met-there m e f in
+            rw (down-here key c rows (t .inside) (t .same), ne-eqb m noMarks f)
+            (alone a (downRows key (suc c) rows) (met-fine f) (λ g. n (ap (λ (k : ℕ). k % 8) (t .marks) ∙ g)))
 
--- ---- the delta in a slot of a valid store is valid
+    pub goes-on : (a : Accumulated) → m % 8 ≡ 1 → walk a (downRows key c rows) ≡ walk (accumulate a (deltaIn row)) (downRows key (suc c) rows)
+    goes-on a f =
+        let t = met-there m e (λ g. omega arith) in
+        ap (walk a) (down-here key c rows (t .inside) (t .same)) ∙ step-delta a row (downRows key (suc c) rows) (ap (λ (k : ℕ). k % 8) (sym (t .marks)) ∙ f)
 
-body-delta : (u : Slot) → bodyTest 1 u ≡ true → deltaOk (take deltaWidth (drop deltaStart u)) ≡ true
-unfolding bodyTest
-body-delta u b =
-    and-right (not (eqb (getD u 2 0) 0)) (deltaOk (take deltaWidth (drop deltaStart u)))
-    (and-left (not (eqb (getD u 2 0) 0) && deltaOk (take deltaWidth (drop deltaStart u))) (allZero (drop deltaEnd u)) b)
+    pub reads-write : m ≡ 0 → readOf (downRows key c rows) ≡ versioned (row .spot % 4294967296) (getD (row .payload) 0 0) (valueAt 1 (row .payload))
+    unfolding readOf atWrite
+    reads-write f =
+        let t = met-there m e (λ g. omega arith) in
+        ap (walk nothing) (down-here key c rows (t .inside) (t .same)) ∙ step-write nothing row (downRows key (suc c) rows) (sym (t .marks) ∙ f)
 
-test-body : (u : Slot) → slotTest u ≡ true → bodyTest (getD u 4 0) u ≡ true
-unfolding slotTest
-test-body u t = and-right (eqb (getD u 0 0) 1 && eqb (getD u 3 0) 0 && leb (getD u 4 0) 2 && leb (getD u 5 0) 1) (bodyTest (getD u 4 0) u) t
+-- ---- how many deltas are met
 
-module _ (s : List ℕ) (v : dataValid s ≡ true) (j : ℕ) (h : j < length (entriesIn s)) where
-  module _ (g : AreWords s) (form : ℕ) (m : form ≡ getD s (slotWidth * j + 4) 0) (e : form ≡ 1) where
-    delta-there : deltaOk (take deltaWidth (drop (slotWidth * j + deltaStart) s)) ≡ true
-    delta-there =
-        let f : getD (slotAt j s) 4 0 ≡ 1 = slotAt-word j 4 s (omega arith) ∙ sym m ∙ e in
-        let t : slotTest (slotAt j s) ≡ true = sym (slotOk-at j s g (at-few s j h)) ∙ slot-ok s v j h in
-        ap deltaOk (sym (slotAt-part j deltaStart deltaWidth s (omega arith)))
-        ∙ body-delta (slotAt j s) (ap (λ (n : ℕ). bodyTest n (slotAt j s)) (sym f) ∙ test-body (slotAt j s) t)
+form-of : (n : ℕ) (u : StoreRow) → (n ≡ 1 → ⊥) → eqb (formOf (cellOf n u)) 1 ≡ false
+unfolding formOf cellOf
+form-of zero u h = refl
+form-of (suc zero) u h = absurd (h refl)
+form-of (suc (suc n)) u h = refl
 
-    pub slot-delta : (op : DeltaOp) → op ≡ opAt (take deltaWidth (drop (slotWidth * j + deltaStart) s)) → validOp op ≡ true
-    slot-delta op r =
-        ap validOp r
-        ∙ validOp-opAt (take deltaWidth (drop (slotWidth * j + deltaStart) s)) ∙ delta-there
+goes : (u : StoreRow) → u .marks % 8 ≡ 1 → goesOn (entryOf u) ≡ true
+unfolding goesOn entryOf cellOf formOf
+goes u e =
+    let f : u .marks / 4 % 2 ≡ 1 → ⊥ = λ x. omega arith in
+    let g : u .marks % 4 ≡ 1 = omega arith in
+    rw (ne-eqb (u .marks / 4 % 2) 1 f, g)
+
+stays : (u : StoreRow) → (u .marks % 8 ≡ 1 → ⊥) → goesOn (entryOf u) ≡ false
+unfolding goesOn entryOf
+stays u n = go (ℕ-discrete (u .marks / 4 % 2) 1)
+  where
+    go : Dec (u .marks / 4 % 2 ≡ 1) → goesOn (entryOf u) ≡ false
+    go (yes e) = rw (eq-eqb (u .marks / 4 % 2) 1 e)
+    go (no e) = rw (ne-eqb (u .marks / 4 % 2) 1 e) (form-of (u .marks % 4) u (λ f. n (omega arith)))
+
+module _ (key c : ℕ) (rows : List StoreRow) (m : ℕ) (e : m ≡ marksMet key c rows) where
+  pub deltas-more : m % 8 ≡ 1 → deltasIn (downRows key c rows) ≡ suc (deltasIn (downRows key (suc c) rows))
+  unfolding deltasIn
+  deltas-more f =
+      let t = met-there key c rows m e (λ g. omega arith) in
+      rw (down-here key c rows (t .inside) (t .same), goes (getD rows c noRow) (ap (λ (k : ℕ). k % 8) (sym (t .marks)) ∙ f))
+
+  pub deltas-on : m % 8 ≡ 1 → (position : ℕ) → position ≡ suc c → (met r : ℕ) → r ≡ met + 1 + deltasIn (downRows key position rows) → r ≡ met + deltasIn (downRows key c rows)
+  deltas-on f position p met r g = omega (arith, g, deltas-more f, ap (λ (k : ℕ). deltasIn (downRows key k rows)) p)
+
+  pub deltas-none : every rowOk rows ≡ true → (m % 8 ≡ 1 → ⊥) → deltasIn (downRows key c rows) ≡ 0
+  unfolding deltasIn
+  deltas-none fine n = go (ℕ-discrete m noMarks)
+    where
+      go : Dec (m ≡ noMarks) → deltasIn (downRows key c rows) ≡ 0
+      go (yes f) = rw (met-end key c rows fine (sym f ∙ e))
+      go (no f) =
+          let t = met-there key c rows m e f in
+          rw (down-here key c rows (t .inside) (t .same), stays (getD rows c noRow) (λ g. n (ap (λ (k : ℕ). k % 8) (t .marks) ∙ g)))
+
+-- ---- where no row is left
+
+pub stopped-end : (a : Accumulated) (m : ℕ) (u : StoreRow) → m ≡ noMarks → (o : MVDataOutput) → o ≡ outputOf (atEnd a) → o ≡ outputOf (stopped a m u)
+unfolding stopped
+stopped-end a m u e o f = rw (eq-eqb m noMarks e) f
+
+-- ---- at a row of a store
+
+module _ (n : ℕ) (s : List ℕ) (store : DataStore n s) (page cell : ℕ) (there : There payloadWidth n s page cell) where
+  abbrev at-row : StoreRow
+  at-row = getD (rowsOf n s) (positionIn n s page cell) noRow
+
+  row-inside : positionIn n s page cell < length (rowsOf n s)
+  row-inside = position-held payloadWidth n s page cell there
+
+  pub at-fine : rowOk at-row ≡ true
+  at-fine = every-at rowOk (rowsOf n s) (positionIn n s page cell) noRow row-inside (store .fine)
+
+  module _ (b : ℕ) (content : b ≡ contentOf payloadWidth n s (positionIn n s page cell)) where
+    pub content-fits : b + 20 ≤ length s
+    content-fits = omega (arith, content, content-inside n s (store .valid) (positionIn n s page cell) row-inside)
+
+    content-is : at-row .payload ≡ take 20 (drop b s)
+    content-is = payload-is n s (store .valid) (positionIn n s page cell) row-inside ∙ ap (λ (k : ℕ). take 20 (drop k s)) (sym content)
+
+    incarnation-is : getD (at-row .payload) 0 0 ≡ getD s b 0
+    incarnation-is =
+        let e : b + 0 ≡ b = omega arith in
+        ap (λ (l : List ℕ). getD l 0 0) content-is ∙ word-of s b 20 0 (omega arith) ∙ ap (λ (k : ℕ). getD s k 0) e
+
+    value-is : valueAt 1 (at-row .payload) ≡ valueAt (b + 1) s
+    value-is = ap (valueAt 1) content-is ∙ value-of s b 20 1 (omega arith)
+
+    shortcut-is : take 4 (drop 16 (at-row .payload)) ≡ take 4 (drop (b + 16) s)
+    shortcut-is = ap (λ (l : List ℕ). take 4 (drop 16 l)) content-is ∙ part-of s b 20 16 4 (omega arith)
+
+    numbers-are : take 16 (at-row .payload) ≡ take 16 (drop b s)
+    numbers-are = ap (take 16) content-is ∙ take-take 16 20 (drop b s) (omega arith)
+
+    -- a delta that is read there
+    module _ (m : ℕ) (own : m ≡ at-row .marks) (delta : m % 8 ≡ 1) (sign : ℕ) (is : sign ≡ m / 8) (op : DeltaOp) (told : op ≡ opAt (take 16 (drop b s) ++ (sign ∷ []))) where
+      words-are : take 16 (drop b s) ++ (sign ∷ []) ≡ take 16 (at-row .payload) ++ (at-row .marks / 8 ∷ [])
+      words-are =
+          let e : sign ≡ at-row .marks / 8 = is ∙ ap (λ (k : ℕ). k / 8) own in
+          rw (numbers-are, e)
+
+      pub op-exact : exact op ≡ deltaIn at-row
+      unfolding deltaIn
+      op-exact = ap exact told ∙ exact-opAt (take 16 (drop b s) ++ (sign ∷ [])) ∙ ap deltaAt words-are
+
+      pub op-valid : validOp op ≡ true
+      op-valid =
+          ap validOp told ∙ validOp-opAt (take 16 (drop b s) ++ (sign ∷ [])) ∙ ap deltaOk words-are
+          ∙ row-delta-ok at-row at-fine (λ f. omega (arith, own))
+
+      pub op-gathered : (acc next : Accumulator) → next ≡ accumulatorOf (accumulate (exactly acc) (exact op)) → next ≡ accumulatorOf (accumulate (exactly acc) (deltaIn at-row))
+      op-gathered acc next e = e ∙ ap (λ (d : Delta). accumulatorOf (accumulate (exactly acc) d)) op-exact
+
+  module _ (acc : Accumulator) (m : ℕ) (own : m ≡ at-row .marks) (some : m ≡ noMarks → ⊥) where
+    at-stop : (r : Read) → walk (exactly acc) (entryOf at-row ∷ []) ≡ r → (o : MVDataOutput) → o ≡ outputOf r → o ≡ outputOf (stopped (exactly acc) m at-row)
+    unfolding stopped
+    at-stop r e o f = rw (ne-eqb m noMarks some) (f ∙ ap outputOf (sym e))
+
+    module _ (place : ℕ) (p : place ≡ at-row .spot % 4294967296) (shifted : ShiftedTxnIndex) (t : shifted ≡ shiftedOf place) where
+      place-is : at-row .spot % 4294967296 ≡ wordOf shifted
+      place-is = sym p ∙ ap wordOf (sym t)
+
+      pub stopped-estimate : m / 4 % 2 ≡ 1 → (o : MVDataOutput) → o ≡ outputOf (dependency (wordOf shifted - 1)) → o ≡ outputOf (stopped (exactly acc) m at-row)
+      stopped-estimate f o e =
+          at-stop (dependency (wordOf shifted - 1))
+          (step-estimate (exactly acc) at-row [] (ap (λ (k : ℕ). k / 4 % 2) (sym own) ∙ f) ∙ ap (λ (k : ℕ). dependency (k - 1)) place-is) o e
+
+      pub stopped-write : m ≡ 0 → (b : ℕ) → b ≡ contentOf payloadWidth n s (positionIn n s page cell) → (o : MVDataOutput) →
+          o ≡ outputOf (atWrite (exactly acc) (wordOf shifted) (getD s b 0) (valueAt (b + 1) s)) → o ≡ outputOf (stopped (exactly acc) m at-row)
+      stopped-write f b c o e =
+          at-stop (atWrite (exactly acc) (wordOf shifted) (getD s b 0) (valueAt (b + 1) s))
+          (step-write (exactly acc) at-row [] (sym own ∙ f) ∙ rw (place-is, incarnation-is b c, value-is b c)) o e
+
+    pub stopped-shortcut : (m / 4 % 2 ≡ 1 → ⊥) → (m ≡ 0 → ⊥) → (m % 8 ≡ 1 → ⊥) → (b : ℕ) → b ≡ contentOf payloadWidth n s (positionIn n s page cell) → (v : Number) →
+        v ≡ numberOf (valueOfWords (take 4 (drop (b + 16) s))) → (o : MVDataOutput) → o ≡ outputOf (onto (exactly acc) (valueOf v)) → o ≡ outputOf (stopped (exactly acc) m at-row)
+    stopped-shortcut f g h b c v r o e =
+        at-stop (onto (exactly acc) (valueOf v))
+        (step-shortcut (exactly acc) at-row [] at-fine (λ x. f (ap (λ (k : ℕ). k / 4 % 2) own ∙ x)) (λ x. h (ap (λ (k : ℕ). k % 8) own ∙ x)) (λ x. g (own ∙ x))
+        ∙ ap (onto (exactly acc)) (ap valueOfWords (shortcut-is b c) ∙ sym (ap valueOf r ∙ valueOf-numberOf (valueOfWords (take 4 (drop (b + 16) s))))))
+        o e
+
+-- marks that are met are those of a row
+pub some-marks : (m : ℕ) → m % 4 ≡ 1 → m ≡ noMarks → ⊥
+some-marks m f x = omega arith
+
+pub write-marks : (m : ℕ) → m ≡ 0 → m ≡ noMarks → ⊥
+write-marks m f x = omega arith
+
+-- ---- the walk from a place
+
+module _ (n : ℕ) (s : List ℕ) (store : DataStore n s) (key page cell : ℕ) (is : Bool) (met : Met n s page cell is) where
+  abbrev at : ℕ
+  at = positionIn n s page cell
+
+  pub place-none : is ≡ false → noMarks ≡ marksMet key at (rowsOf n s)
+  place-none e = met-none key at (rowsOf n s) (sym (met .left) ∙ e)
+
+  pub place-row : is ≡ true → (found : ℕ) → found ≡ getD (rowsOf n s) at noRow .spot / 4294967296 → found ≡ key → (m : ℕ) → m ≡ getD (rowsOf n s) at noRow .marks → m ≡ marksMet key at (rowsOf n s)
+  place-row e = met-row key at (rowsOf n s) (sym (met .left) ∙ e)
+
+  module _ (m : ℕ) (e : m ≡ marksMet key at (rowsOf n s)) where
+    pub place-there : (m ≡ noMarks → ⊥) → There payloadWidth n s page cell
+    place-there f = met .there (met .left ∙ lt-ltb at (length (rowsOf n s)) (met-there key at (rowsOf n s) m e f .inside))
+
+    pub place-own : (m ≡ noMarks → ⊥) → m ≡ getD (rowsOf n s) at noRow .marks
+    place-own f = met-there key at (rowsOf n s) m e f .marks
+
+    pub place-inside : (m ≡ noMarks → ⊥) → at < length (rowsOf n s)
+    place-inside f = met-there key at (rowsOf n s) m e f .inside
+
+    pub place-few : (m ≡ noMarks → ⊥) → at < 4096
+    place-few f = omega (arith, place-inside f, held-units payloadWidth n false s (store .valid), store .valid .units, store .valid .few)
+
+    pub place-stops : (acc : Accumulator) → (m % 8 ≡ 1 → ⊥) → (o : MVDataOutput) → o ≡ outputOf (stopped (exactly acc) m (getD (rowsOf n s) at noRow)) →
+        o ≡ outputOf (walk (exactly acc) (downRows key at (rowsOf n s)))
+    place-stops acc f o g = g ∙ ap outputOf (sym (stops key at (rowsOf n s) (store .fine) m e (exactly acc) f))
+
+    -- a write: the read ends there
+    pub place-read : m ≡ 0 → (place : ℕ) → place ≡ getD (rowsOf n s) at noRow .spot % 4294967296 → (b : ℕ) → b ≡ contentOf payloadWidth n s at →
+        readOf (downRows key at (rowsOf n s)) ≡ versioned place (getD s b 0) (valueAt (b + 1) s)
+    place-read f place p b c =
+        let h : There payloadWidth n s page cell = place-there (λ x. omega arith) in
+        let w : getD (rowsOf n s) at noRow .spot % 4294967296 ≡ place = sym p in
+        reads-write key at (rowsOf n s) (store .fine) m e f ∙ rw (w, incarnation-is n s store page cell h b c, value-is n s store page cell h b c)
+
+    pub place-write : m ≡ 0 → (place : ℕ) → place ≡ getD (rowsOf n s) at noRow .spot % 4294967296 → (shifted : ShiftedTxnIndex) → shifted ≡ shiftedOf place → (b : ℕ) →
+        b ≡ contentOf payloadWidth n s at → (o : MVDataOutput) → o ≡ outputOf (versioned (wordOf shifted) (getD s b 0) (valueAt (b + 1) s)) →
+        o ≡ outputOf (readOf (downRows key at (rowsOf n s)))
+    place-write f place p shifted t b c o g =
+        let h : There payloadWidth n s page cell = place-there (λ x. omega arith) in
+        let w : getD (rowsOf n s) at noRow .spot % 4294967296 ≡ wordOf shifted = sym p ∙ ap wordOf (sym t) in
+        g ∙ ap outputOf (sym (reads-write key at (rowsOf n s) (store .fine) m e f ∙ rw (w, incarnation-is n s store page cell h b c, value-is n s store page cell h b c)))
+
+    -- a delta: the walk goes on
+    module _ (f : m % 8 ≡ 1) (acc next : Accumulator) (g : next ≡ accumulatorOf (accumulate (exactly acc) (deltaIn (getD (rowsOf n s) at noRow)))) where
+      next-is : exactly next ≡ accumulate (exactly acc) (deltaIn (getD (rowsOf n s) at noRow))
+      next-is = ap exactly g ∙ exactly-accumulatorOf (accumulate (exactly acc) (deltaIn (getD (rowsOf n s) at noRow)))
+
+      pub deeper-canonical : next ≡ accumulatorOf (exactly next)
+      deeper-canonical = g ∙ ap accumulatorOf (sym next-is)
+
+      pub deeper-valid : validSoFar (exactly acc) ≡ true → validSoFar (exactly next) ≡ true
+      deeper-valid v =
+          ap validSoFar next-is
+          ∙ accumulate-valid (exactly acc) (deltaIn (getD (rowsOf n s) at noRow)) v
+          (row-delta-valid (getD (rowsOf n s) at noRow) (met-fine key at (rowsOf n s) (store .fine) m e (some-marks m (omega arith)))
+          (λ z. let o : m ≡ getD (rowsOf n s) at noRow .marks = place-own (some-marks m (omega arith)) in omega arith))
+
+      pub deeper-walk : (position : ℕ) → position ≡ suc at → walk (exactly acc) (downRows key at (rowsOf n s)) ≡ walk (exactly next) (downRows key position (rowsOf n s))
+      deeper-walk position p =
+          goes-on key at (rowsOf n s) (store .fine) m e (exactly acc) f
+          ∙ ap (λ (k : ℕ). walk (accumulate (exactly acc) (deltaIn (getD (rowsOf n s) at noRow))) (downRows key k (rowsOf n s))) (sym p)
+          ∙ ap (λ (a : Accumulated). walk a (downRows key position (rowsOf n s))) (sym next-is)
+
+-- ---- the walk on its way: what is left of it decides what a read from its start finds
+
+pub record Walking (n : ℕ) (s : List ℕ) (key start rest page cell : ℕ) (is : Bool) (acc : Accumulator) : Type 0 where
+  pub met : Met n s page cell is
+  pub deltas : rest ≡ deltasIn (downRows key (positionIn n s page cell) (rowsOf n s))
+  pub canonical : acc ≡ accumulatorOf (exactly acc)
+  pub valid : validSoFar (exactly acc) ≡ true
+  pub same : readOf (downRows key start (rowsOf n s)) ≡ walk (exactly acc) (downRows key (positionIn n s page cell) (rowsOf n s))
+
+pub starts : (n : ℕ) (s : List ℕ) (key rest page cell : ℕ) (is : Bool) → Met n s page cell is →
+    rest ≡ 0 + deltasIn (downRows key (positionIn n s page cell) (rowsOf n s)) → Walking n s key (positionIn n s page cell) rest page cell is Empty
+unfolding exactly accumulatorOf validSoFar readOf
+starts n s key rest page cell is met e = record { met = met; deltas = e ∙ omega arith; canonical = refl; valid = refl; same = refl }
+
+module _ (n : ℕ) (s : List ℕ) (store : DataStore n s) (key start rest page cell : ℕ) (is : Bool) (acc : Accumulator) (w : Walking n s key start rest page cell is acc) where
+  abbrev now-at : ℕ
+  now-at = positionIn n s page cell
+
+  abbrev now-row : StoreRow
+  now-row = getD (rowsOf n s) now-at noRow
+
+  abbrev now-marks : ℕ
+  now-marks = marksMet key now-at (rowsOf n s)
+
+  module _ (left : 0 < rest) where
+    on-delta : now-marks % 8 ≡ 1
+    on-delta = go (ℕ-discrete (now-marks % 8) 1)
+      where
+        go : Dec (now-marks % 8 ≡ 1) → now-marks % 8 ≡ 1
+        go (yes e) = e
+        go (no e) = absurd (omega (arith, w .deltas, deltas-none key now-at (rowsOf n s) now-marks refl (store .fine) e))
+
+    pub on-there : There payloadWidth n s page cell
+    on-there = place-there n s store key page cell is (w .met) now-marks refl (some-marks now-marks (omega (arith, on-delta)))
+
+    pub on-marks : (m : ℕ) → m ≡ now-row .marks → m % 8 ≡ 1
+    on-marks m e =
+        let own : now-marks ≡ now-row .marks = place-own n s store key page cell is (w .met) now-marks refl (some-marks now-marks (omega (arith, on-delta))) in
+        ap (λ (k : ℕ). k % 8) (e ∙ sym own) ∙ on-delta
+
+    pub on-next : (next : Accumulator) → next ≡ accumulatorOf (accumulate (exactly acc) (deltaIn now-row)) → (page′ cell′ : ℕ) (is′ : Bool) → Met n s page′ cell′ is′ →
+        positionIn n s page′ cell′ ≡ suc now-at → (rest′ : ℕ) → rest′ ≡ rest - 1 → Walking n s key start rest′ page′ cell′ is′ next
+    on-next next g page′ cell′ is′ m p rest′ r =
+        record {
+          met = m;
+          deltas = omega (arith, w .deltas, deltas-more key now-at (rowsOf n s) now-marks refl on-delta, ap (λ (k : ℕ). deltasIn (downRows key k (rowsOf n s))) p);
+          canonical = deeper-canonical n s store key page cell is (w .met) now-marks refl on-delta acc next g;
+          valid = deeper-valid n s store key page cell is (w .met) now-marks refl on-delta acc next g (w .valid);
+          same = w .same ∙ deeper-walk n s store key page cell is (w .met) now-marks refl on-delta acc next g (positionIn n s page′ cell′) p;
+        }
+
+  module _ (end : 0 < rest → ⊥) (m : ℕ) (e : m ≡ now-marks) where
+    pub end-marks : m % 8 ≡ 1 → ⊥
+    end-marks f = end (omega (arith, w .deltas, deltas-more key now-at (rowsOf n s) m e f))
+
+    pub end-found : (o : MVDataOutput) → o ≡ outputOf (stopped (exactly acc) m now-row) → o ≡ outputOf (readOf (downRows key start (rowsOf n s)))
+    end-found o g = place-stops n s store key page cell is (w .met) m e acc end-marks o g ∙ ap outputOf (sym (w .same))
+
+-- ---- a place that the store's search and steps answer
+
+pub met-at : (n : ℕ) (s : List ℕ) (page cell position : ℕ) (is : Bool) → Stands payloadWidth n s page cell → positionIn n s page cell ≡ position → is ≡ ltb position (length (rowsOf n s)) →
+    (is ≡ true → There payloadWidth n s page cell) → Met n s page cell is
+met-at n s page cell position is stands p left there =
+    record { stands = stands; there = there; left = left ∙ ap (λ (k : ℕ). ltb k (length (rowsOf n s))) (sym p) }
+
+pub versioned-is : (shifted : ShiftedTxnIndex) (i : ℕ) (v : ValueWithLayout) (ws : List ℕ) → v ≡ valueFrom ws → Versioned shifted i v ≡ outputOf (versioned (wordOf shifted) i ws)
+unfolding outputOf
+versioned-is shifted i v ws e = ap (Versioned shifted i) e

@@ -1,108 +1,118 @@
--- How the data store keeps an entry in a slot of 32 words, and what a store's words hold.
+-- How the data store keeps an entry in a row of its store (`Rattle.store`): 22 words a payload, one row a key and shifted index.
 --
---   word 0      1, in use           word 4   0 a write, 1 a delta, 2 a delta with a shortcut
---   word 1      key                 word 5   0 done, 1 an estimate
---   word 2      shifted index       a write: word 6 incarnation, words 7 to 13 the value
---   word 3      0                   a delta: words 6 to 22 its words, then the shortcut in words 23 to 26, low word first
+--   spot      shifted index + 2 ^ 32 * key
+--   marks     0 a write, 1 a delta, 2 a delta with a shortcut; 4 more: an estimate; 8 more: the delta subtracts
+--   content   20 words. A write: its incarnation, then the value. A delta: four numbers (M, H, L and the size of u), then the shortcut, low word first
 --
--- All other words are 0. Slots rise by words 0 to 3, so by key and shifted index.
-use mathlib.Core.Bool.{Bool, cond, not, _&&_}
-use mathlib.Core.List.{List, _∷_, _++_, map}
+-- All other words of the content are 0. Rows fall by key and shifted index.
+use mathlib.Core.Bool.{Bool, true, false, cond, _&&_}
+use mathlib.Core.List.{List, [], _∷_, _++_, map, reverse}
 use mathlib.Core.Option.{none, some}
-use Prim.Native.Nat.{ℕ, zero, suc, _+_}
-use lib.Dec.{leb, eqb}
-use lib.ListN.{length, getD, take, drop}
+use Prim.Native.Nat.{ℕ, zero, suc, _+_, _-_, _*_, _/_, _%_}
+use lib.Dec.{eqb}
+use lib.ListN.{length, getD, take, drop, replicate}
+use Rattle.lists.specs.Lists.{every}
 use Rattle.number.specs.Words.{digits, valueOfWords}
-use Rattle.delta.specs.Delta.{deltaWidth, deltaAt, deltaOk, deltaWords}
+use Rattle.delta.specs.Delta.{Delta, deltaAt, deltaWords, signWord}
 use Rattle.types.specs.Flag.{flagOf}
-use Rattle.types.specs.Units.{lackOf}
-use Rattle.types.specs.Value.{valueWidth, valueAt, valueOk, isExchanged}
-use Rattle.store.specs.Slots.{Slot, slotsIn, encode, held, allZero, padded, sameWords}
+use Rattle.types.specs.Units.{lackOf, unitsIn}
+use Rattle.types.specs.Value.{valueAt}
+use Rattle.numbers.specs.Numbers as Numbers
+use Rattle.store.specs.Held.{heldIn}
+use Rattle.store.specs.Scan.{isStore}
 use Rattle.model.specs.Rows.{Row, Edit, edited}
 use Rattle.model.specs.Data.{Cell, write, delta, Entry, Ruling, refuse, accept}
-use Rattle.model.specs.Fine.{fineEntry, fineEntries}
+use Rattle.model.specs.Fine.{fineEntry}
 
--- Where a write's value and a delta's words begin, and where they end: after a delta its shortcut begins.
-abbrev pub valueStart : ℕ
-valueStart = 7
+-- The words of a payload, and of its content.
+abbrev pub payloadWidth : ℕ
+payloadWidth = 22
 
-abbrev pub valueEnd : ℕ
-valueEnd = valueStart + valueWidth
+abbrev pub contentWidth : ℕ
+contentWidth = 20
 
-abbrev pub deltaStart : ℕ
-deltaStart = 6
-
-abbrev pub deltaEnd : ℕ
-deltaEnd = deltaStart + deltaWidth
-
-abbrev pub shortcutEnd : ℕ
-shortcutEnd = deltaEnd + 4
+-- A row of the store.
+abbrev pub StoreRow : Type 0
+StoreRow = Numbers.Row (List ℕ)
 
 unfoldable pub formOf : Cell → ℕ
 formOf (write incarnation v) = 0
 formOf (delta d none) = 1
 formOf (delta d (some n)) = 2
 
+unfoldable pub signOf : Cell → ℕ
+signOf (write incarnation v) = 0
+signOf (delta d shortcut) = signWord (d .update)
+
+unfoldable pub marksOf : Entry → ℕ
+marksOf e = formOf (e .cell) + 4 * flagOf (e .estimate) + 8 * signOf (e .cell)
+
+-- A delta's words without the last, which is its sign.
 unfoldable pub bodyOf : Cell → List ℕ
 bodyOf (write incarnation v) = incarnation ∷ v
-bodyOf (delta d none) = deltaWords d
-bodyOf (delta d (some n)) = deltaWords d ++ digits 4 n
+bodyOf (delta d none) = take 16 (deltaWords d)
+bodyOf (delta d (some n)) = take 16 (deltaWords d) ++ digits 4 n
 
--- The slot of an entry.
-unfoldable pub slotOf : Row Entry → Slot
-slotOf r =
-    padded (1 ∷ r .key ∷ r .place ∷ 0 ∷ formOf (r .held .cell) ∷ flagOf (r .held .estimate) ∷ bodyOf (r .held .cell))
+-- Words with zeros after them, as many as a content has.
+unfoldable pub padded : List ℕ → List ℕ
+padded ws = ws ++ replicate (contentWidth - length ws) 0
 
--- The entry of a slot.
-unfoldable pub cellOf : ℕ → Slot → Cell
-cellOf zero u = write (getD u 6 0) (valueAt valueStart u)
-cellOf (suc zero) u = delta (deltaAt (take deltaWidth (drop deltaStart u))) none
-cellOf (suc (suc n)) u = delta (deltaAt (take deltaWidth (drop deltaStart u))) (some (valueOfWords (take 4 (drop deltaEnd u))))
+unfoldable pub spotOf : ℕ → ℕ → ℕ
+spotOf key place = place + 4294967296 * key
 
-unfoldable pub entryOf : Slot → Row Entry
+-- The row of an entry.
+unfoldable pub rowOf : Row Entry → StoreRow
+rowOf r = record { spot = spotOf (r .key) (r .place); marks = marksOf (r .held); payload = padded (bodyOf (r .held .cell)) }
+
+-- The entry of a row.
+unfoldable pub deltaIn : StoreRow → Delta
+deltaIn u = deltaAt (take 16 (u .payload) ++ (u .marks / 8 ∷ []))
+
+unfoldable pub cellOf : ℕ → StoreRow → Cell
+cellOf zero u = write (getD (u .payload) 0 0) (valueAt 1 (u .payload))
+cellOf (suc zero) u = delta (deltaIn u) none
+cellOf (suc (suc n)) u = delta (deltaIn u) (some (valueOfWords (take 4 (drop 16 (u .payload)))))
+
+unfoldable pub entryOf : StoreRow → Row Entry
 entryOf u =
-    record { key = getD u 1 0; place = getD u 2 0; held = record { cell = cellOf (getD u 4 0) u; estimate = eqb (getD u 5 0) 1 } }
+    record {
+      key = u .spot / 4294967296;
+      place = u .spot % 4294967296;
+      held = record { cell = cellOf (u .marks % 4) u; estimate = eqb (u .marks / 4 % 2) 1 };
+    }
 
--- The entries that a store's words hold, and the words of a store like `s` that holds entries.
+-- The entries that a store's words hold, rising.
+unfoldable pub rowsIn : List ℕ → List StoreRow
+rowsIn s = heldIn payloadWidth s
+
 unfoldable pub entriesIn : List ℕ → List (Row Entry)
-entriesIn s = map entryOf (held s)
+entriesIn s = map entryOf (reverse (rowsIn s))
 
-unfoldable pub holding : List ℕ → List (Row Entry) → List ℕ
-holding s rows = encode s (map slotOf rows)
+unfoldable pub sameWords : List ℕ → List ℕ → Bool
+sameWords [] [] = true
+sameWords [] (y ∷ ys) = false
+sameWords (x ∷ xs) [] = false
+sameWords (x ∷ xs) (y ∷ ys) = eqb x y && sameWords xs ys
 
--- Rule 5 for this store: its words are those of a store that holds fine entries.
+unfoldable pub sameRow : StoreRow → StoreRow → Bool
+sameRow u v = eqb (u .spot) (v .spot) && eqb (u .marks) (v .marks) && sameWords (u .payload) (v .payload)
+
+-- A row is that of a fine entry.
+unfoldable pub rowOk : StoreRow → Bool
+rowOk u = fineEntry (entryOf u) && sameRow (rowOf (entryOf u)) u
+
+-- Rule 5 for this store: its words are those of a store, and each row is that of a fine entry.
 unfoldable pub dataValid : List ℕ → Bool
-dataValid s = sameWords (holding s (entriesIn s)) s && fineEntries (entriesIn s)
+dataValid s = isStore payloadWidth false s && every rowOk (rowsIn s)
 
--- The same of one slot: it is the slot of a fine entry. A store is valid where its slots are, in order, with zeros after them.
-unfoldable pub slotOk : Slot → Bool
-slotOk u = fineEntry (entryOf u) && sameWords (slotOf (entryOf u)) u
-
--- Rule 5 of a slot word by word, as a scan tests it.
-unfoldable pub bodyTest : ℕ → Slot → Bool
-bodyTest zero u =
-    valueOk (valueAt valueStart u) && cond (eqb (getD u 2 0) 0) (eqb (getD u 6 0) 0 && eqb (getD u 5 0) 0) (isExchanged (valueAt valueStart u))
-    && allZero (drop valueEnd u)
-bodyTest (suc zero) u = not (eqb (getD u 2 0) 0) && deltaOk (take deltaWidth (drop deltaStart u)) && allZero (drop deltaEnd u)
-bodyTest (suc (suc n)) u = not (eqb (getD u 2 0) 0) && deltaOk (take deltaWidth (drop deltaStart u)) && allZero (drop shortcutEnd u)
-
-unfoldable pub slotTest : Slot → Bool
-slotTest u =
-    eqb (getD u 0 0) 1 && eqb (getD u 3 0) 0 && leb (getD u 4 0) 2 && leb (getD u 5 0) 1 && bodyTest (getD u 4 0) u
-
--- "more units after the ticket than the store has": the refusal of rows that a store like `s` has no slots for, 0 of those that it has.
+-- "more units after the ticket than the store has": the refusal of rows that a store like `s` has no units for, 0 of those that it has.
 unfoldable pub lackIn : List ℕ → List (Row Entry) → ℕ
-lackIn s rows = lackOf (length rows) (slotsIn (length s))
+lackIn s rows = lackOf (length rows) (unitsIn (length s))
 
 unfoldable pub fitsIn : List ℕ → List (Row Entry) → Bool
 fitsIn s rows = eqb (lackIn s rows) 0
 
--- The number that an operation at a key and place answers, 0 where it is accepted, and the words that it leaves.
+-- The number that an operation at a key and place answers, 0 where it is accepted.
 unfoldable pub resultOf : List ℕ → ℕ → ℕ → Ruling (Edit Entry) → ℕ
 resultOf s key place (refuse n) = n
 resultOf s key place (accept answer e) = lackIn s (edited key place e (entriesIn s))
-
-unfoldable pub wordsAfter : List ℕ → ℕ → ℕ → Ruling (Edit Entry) → List ℕ
-wordsAfter s key place (refuse n) = s
-wordsAfter s key place (accept answer e) =
-    cond (fitsIn s (edited key place e (entriesIn s))) (holding s (edited key place e (entriesIn s))) s

@@ -1,7 +1,13 @@
 pub mod Layout
+pub mod Left
+pub mod Found
+pub mod Puts
+pub mod Base
+pub mod Edited
 pub mod Output
 pub mod Step
-pub mod Found
-pub mod Edited
-pub mod Base
+pub mod Down
+pub mod Rows
+pub mod Test
 pub mod Materialize
+pub mod First

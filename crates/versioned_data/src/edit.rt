@@ -5,26 +5,24 @@ ghost use Prim.Native.Nat.{suc, _+_, _≤_, _<_};
 ghost use lib.ListN.{length, take, drop};
 ghost use Rattle.delta.specs.Delta.{deltaWidth, deltaAt, deltaOk};
 ghost use Rattle.types.specs.Index.{indexBound};
-ghost use Rattle.types.specs.Value.{valueAt, valueWidth};
-ghost use Rattle.store.specs.Slots.{held};
-ghost use Rattle.store.specs.Found.{isAmong};
+ghost use Rattle.types.specs.Value.{valueAt, valueWidth, valueOk, isExchanged};
 ghost use Rattle.model.specs.Data as rule;
 ghost use Rattle.versioned_data.specs.Layout.{dataValid};
-ghost use Rattle.versioned_data.specs.Found.{mayPut};
-ghost use Rattle.versioned_data.specs.Base.{baseAt};
+ghost use Rattle.versioned_data.specs.Found.{RowIn, foundRow};
+ghost use Rattle.versioned_data.specs.Base.{baseAt, mayPut};
 ghost use Rattle.versioned_data.specs.Edited.{Edited};
 use crate::base::Base;
 use crate::base::over_base;
+use crate::find::Found;
 use crate::find::find_entry;
 use crate::layout;
-use crate::put::new_delta_from;
-use crate::put::new_write_from;
-use crate::put::put_entry;
-use store::edit::close_slots;
-use store::search::Found;
-use store::search::used;
-use store::slot::word;
-use types::flag::Flag;
+use crate::put::put_delta;
+use crate::put::put_write;
+use store::edit::erase;
+use store::edit::set_marks;
+use store::read::content_at;
+use store::read::marks_at;
+use store::read::units;
 use types::index::Incarnation;
 use types::index::ShiftedTxnIndex;
 use types::index::TxnIndex;
@@ -33,34 +31,41 @@ use types::value::ValueWithLayout;
 
 // Whether a write of this incarnation may go where it was looked for: over a write only if it is higher.
 fn may_write(s: &[u32], found: Found, incarnation: u32) -> bool
-    requires among { ⌜ isAmong (length (held (now s))) found ≡ true ⌝ }
-    ensures may { λ r. ⌜ r ≡ mayPut incarnation found (now (s .entry)) ⌝ }
+    requires valid { ⌜ dataValid (now s) ≡ true ⌝ }
+    requires row { ⌜ RowIn (now s) found ⌝ }
+    ensures may { λ r. ⌜ r ≡ mayPut incarnation (foundRow (now (s .entry)) found) ⌝ }
 {
     match found {
-        Found::Absent(_) => {
+        Found::Absent(_, _) => {
             return true;
         }
-        Found::There(i) => {
-            if word(s, i, layout::FORM) != layout::WRITE {
+        Found::There(page, i) => {
+            let n = units(s);
+            let m = marks_at(s, n, layout::WIDTH, false, page, i);
+            if m % 4 != layout::WRITE {
                 return true;
             }
-            return word(s, i, layout::INCARNATION) < incarnation;
+            let b = content_at(s, n, layout::WIDTH, false, page, i);
+            return s[b] < incarnation;
         }
     }
 }
 
 // What a base value is to do where it was looked for.
 fn base_at(s: &[u32], found: Found, t: &[u32], at: usize) -> Base
-    requires among { ⌜ isAmong (length (held (now s))) found ≡ true ⌝ }
+    requires valid { ⌜ dataValid (now s) ≡ true ⌝ }
+    requires row { ⌜ RowIn (now s) found ⌝ }
     requires inside { ⌜ at + valueWidth ≤ length (now t) ⌝ }
-    ensures base { λ r. ⌜ r ≡ baseAt (valueAt at (now (t .entry))) found (now (s .entry)) ⌝ }
+    ensures base { λ r. ⌜ r ≡ baseAt (valueAt at (now (t .entry))) (foundRow (now (s .entry)) found) ⌝ }
 {
     match found {
-        Found::Absent(_) => {
+        Found::Absent(_, _) => {
             return Base::Set;
         }
-        Found::There(i) => {
-            let existing = ValueWithLayout::read(s, 32 * i + layout::VALUE);
+        Found::There(page, i) => {
+            let n = units(s);
+            let b = content_at(s, n, layout::WIDTH, false, page, i);
+            let existing = ValueWithLayout::read(s, b + 1);
             let value = ValueWithLayout::read(t, at);
             return over_base(value, existing);
         }
@@ -78,8 +83,7 @@ pub fn add_delta(s: &mut [u32], key: u32, txn_idx: TxnIndex, t: &[u32], at: usiz
 {
     let place = ShiftedTxnIndex::new(txn_idx);
     let found = find_entry(s, key, place);
-    let u = new_delta_from(key, place, t, at);
-    put_entry(s, found, &u)
+    put_delta(s, found, key, place.word(), t, at)
 }
 
 // An entry that is not there is refused, where the Rust panics.
@@ -90,11 +94,21 @@ pub fn mark_estimate(s: &mut [u32], key: u32, txn_idx: TxnIndex) -> u32
 {
     let found = find_entry(s, key, ShiftedTxnIndex::new(txn_idx));
     match found {
-        Found::Absent(_) => {
+        Found::Absent(_, _) => {
             return refusal::NOTHING_THERE;
         }
-        Found::There(i) => {
-            s[32 * i + layout::FLAG] = Flag::Estimate.word();
+        Found::There(page, i) => {
+            let n = units(s);
+            let m = marks_at(s, n, layout::WIDTH, false, page, i);
+            set_marks(
+                s,
+                n,
+                layout::WIDTH,
+                false,
+                page,
+                i,
+                m % 4 + layout::ESTIMATE + 8 * (m / 8),
+            );
             return 0;
         }
     }
@@ -108,12 +122,12 @@ pub fn remove(s: &mut [u32], key: u32, txn_idx: TxnIndex) -> u32
 {
     let found = find_entry(s, key, ShiftedTxnIndex::new(txn_idx));
     match found {
-        Found::Absent(_) => {
+        Found::Absent(_, _) => {
             return refusal::NOTHING_THERE;
         }
-        Found::There(i) => {
-            let n = used(s);
-            close_slots(s, i, n, 1);
+        Found::There(page, i) => {
+            let n = units(s);
+            erase(s, n, layout::WIDTH, false, page, i);
             return 0;
         }
     }
@@ -123,6 +137,7 @@ pub fn remove(s: &mut [u32], key: u32, txn_idx: TxnIndex) -> u32
 pub fn set_base_value(s: &mut [u32], key: u32, t: &[u32], at: usize) -> u32
     requires valid { ⌜ dataValid (now s) ≡ true ⌝ }
     requires inside { ⌜ at + valueWidth ≤ length (now t) ⌝ }
+    requires value { ⌜ valueOk (valueAt at (now t)) ≡ true ⌝ }
     ensures edited { λ r. ⌜ Edited (now (s .entry)) key 0 (rule.setBaseValue (valueAt at (now (t .entry)))) r (now (s .exit)) ⌝ }
 {
     let place = ShiftedTxnIndex::zero_idx();
@@ -135,8 +150,7 @@ pub fn set_base_value(s: &mut [u32], key: u32, t: &[u32], at: usize) -> u32
             return refusal::BASE_DIFFERS;
         }
         Base::Set => {
-            let u = new_write_from(key, place, 0, t, at);
-            return put_entry(s, found, &u);
+            return put_write(s, found, key, place.word(), 0, t, at);
         }
     }
 }
@@ -153,6 +167,8 @@ pub fn write(
     requires valid { ⌜ dataValid (now s) ≡ true ⌝ }
     requires served { ⌜ «txn_idx» < indexBound ⌝ }
     requires inside { ⌜ at + valueWidth ≤ length (now t) ⌝ }
+    requires value { ⌜ valueOk (valueAt at (now t)) ≡ true ⌝ }
+    requires exchanged { ⌜ isExchanged (valueAt at (now t)) ≡ true ⌝ }
     ensures edited { λ r.
         ⌜ Edited (now (s .entry)) key (suc «txn_idx») (rule.writeValue incarnation (valueAt at (now (t .entry)))) r (now (s .exit)) ⌝ }
 {
@@ -161,6 +177,5 @@ pub fn write(
     if !may_write(s, found, incarnation) {
         return refusal::INCARNATION_NOT_HIGHER;
     }
-    let u = new_write_from(key, place, incarnation, t, at);
-    put_entry(s, found, &u)
+    put_write(s, found, key, place.word(), incarnation, t, at)
 }

@@ -1,4 +1,4 @@
-// versioned_data.rs over slots in lent words: kinds 1 to 7.
+// versioned_data.rs over a store in lent words: kinds 1 to 7.
 pub mod base;
 pub mod edit;
 pub mod fetch;

@@ -1,147 +1,120 @@
-// Rule 5 for the data store: one pass over its slots.
-use crate::layout;
-use delta::words::is_delta;
-use store::scan::rest_zero;
-use store::scan::zero_from;
-use store::slot::in_order;
-use store::slot::slot_count;
-use store::slot::word;
+// Rule 5 for the data store: its words are those of a store, and each row is that of a fine entry.
+use crate::layout::WIDTH;
+use crate::walk::read_op;
+use moves::all_zero;
+use store::read;
+use store::scan::is_store;
 use types::value::ValueWithLayout;
+use types::value::value_ok;
 ghost use mathlib.Core.Path.{_≡_};
-ghost use mathlib.Core.Bool.{cond, not, _&&_};
-ghost use Prim.Native.Nat.{_≤_, _<_};
-ghost use lib.Dec.{leb, eqb};
+ghost use mathlib.Core.Bool.{false};
+ghost use Prim.Native.Nat.{_+_, _≤_};
 ghost use lib.ListN.{length, getD, take, drop};
-ghost use Rattle.delta.specs.Delta.{deltaWidth, deltaOk};
-ghost use Rattle.types.specs.Value.{isExchanged};
-ghost use Rattle.types.specs.ValueWithLayout.{wordsOf};
-ghost use Rattle.store.specs.Slots.{slotWidth, slotsIn, slotAt, joined, isBefore, allZero};
-ghost use Rattle.versioned_data.specs.Layout.{deltaStart, dataValid, slotOk, bodyTest};
+ghost use Rattle.lists.specs.Lists.{every};
+ghost use Rattle.store.specs.Held.{noRow};
+ghost use Rattle.store.specs.Valid.{Valid, There};
+ghost use Rattle.versioned_data.specs.Layout.{payloadWidth, contentWidth, rowOk, dataValid};
+ghost use Rattle.versioned_data.specs.Rows.{rowsOf, positionIn};
+ghost use Rattle.versioned_data.specs.Test.{sideTest, writeTest, deltaTest, marksTest};
 
-// Whether the head of slot i is that of an entry: in use, word 3 zero, a form and a flag.
-fn head_ok(s: &[u32], i: usize) -> bool
-    requires inside { ⌜ i < slotsIn (length (now s)) ⌝ }
-    ensures head { λ r.
-        ⌜ r
-        ≡ (eqb (getD (slotAt i (now (s .entry))) 0 0) 1 && eqb (getD (slotAt i (now (s .entry))) 3 0) 0
-        && leb (getD (slotAt i (now (s .entry))) 4 0) 2 && leb (getD (slotAt i (now (s .entry))) 5 0) 1) ⌝ }
+// Whether the write at b may stand at a place: at the base, incarnation 0 and done; above it, exchanged.
+fn side_ok(s: &[u32], b: usize, place: u32, marks: u32) -> bool
+    requires inside { ⌜ b + contentWidth ≤ length (now s) ⌝ }
+    ensures side { λ r. ⌜ r ≡ sideTest place marks (take contentWidth (drop b (now (s .entry)))) ⌝ }
 {
-    if word(s, i, 0) != layout::IN_USE {
+    if place != 0 {
+        return ValueWithLayout::read(s, b + 1).is_exchanged();
+    }
+    if s[b] != 0 {
         return false;
     }
-    if word(s, i, 3) != 0 {
-        return false;
-    }
-    if layout::LAST_FORM < word(s, i, layout::FORM) {
-        return false;
-    }
-    word(s, i, layout::FLAG) <= layout::LAST_FLAG
+    marks == 0
 }
 
-// Whether a write of this value may stand in slot i: at the base, incarnation 0 and done; above it, exchanged.
-fn place_ok(s: &[u32], i: usize, v: ValueWithLayout) -> bool
-    requires inside { ⌜ i < slotsIn (length (now s)) ⌝ }
-    ensures place { λ r.
-        ⌜ r
-        ≡ cond (eqb (getD (slotAt i (now (s .entry))) 2 0) 0)
-        (eqb (getD (slotAt i (now (s .entry))) 6 0) 0 && eqb (getD (slotAt i (now (s .entry))) 5 0) 0) (isExchanged (wordsOf v)) ⌝ }
+// Whether a write is at b, with zeros after it.
+fn write_ok(s: &[u32], b: usize, place: u32, marks: u32) -> bool
+    requires inside { ⌜ b + contentWidth ≤ length (now s) ⌝ }
+    ensures write { λ r. ⌜ r ≡ writeTest place marks (take contentWidth (drop b (now (s .entry)))) ⌝ }
 {
-    if word(s, i, layout::PLACE) != 0 {
-        return v.is_exchanged();
-    }
-    if word(s, i, layout::INCARNATION) != 0 {
+    if !value_ok(s, b + 1) {
         return false;
     }
-    word(s, i, layout::FLAG) == 0
+    if !side_ok(s, b, place, marks) {
+        return false;
+    }
+    all_zero(s, b + 8, b + 20)
 }
 
-// Whether slot i has a write after its head.
-fn write_ok(s: &[u32], i: usize) -> bool
-    requires inside { ⌜ i < slotsIn (length (now s)) ⌝ }
-    ensures write { λ r. ⌜ r ≡ bodyTest 0 (slotAt i (now (s .entry))) ⌝ }
+// Whether a delta above the base is at b, with zeros after it where it has no shortcut.
+fn delta_ok(s: &[u32], b: usize, place: u32, marks: u32) -> bool
+    requires inside { ⌜ b + contentWidth ≤ length (now s) ⌝ }
+    ensures delta { λ r. ⌜ r ≡ deltaTest place marks (take contentWidth (drop b (now (s .entry)))) ⌝ }
 {
-    let v = ValueWithLayout::read(s, 32 * i + layout::VALUE);
-    if !v.ok() {
+    if place == 0 {
         return false;
     }
-    if !place_ok(s, i, v) {
+    if !read_op(s, b, marks / 8).is_valid() {
         return false;
     }
-    rest_zero(s, i, layout::AFTER_VALUE)
+    if marks % 4 == 1 {
+        return all_zero(s, b + 16, b + 20);
+    }
+    true
 }
 
-// Whether slot i has a delta after its head, above the base, and zeros from j on.
-fn delta_ok(s: &[u32], i: usize, j: usize) -> bool
-    requires inside { ⌜ i < slotsIn (length (now s)) ⌝ }
-    requires within { ⌜ j ≤ slotWidth ⌝ }
-    ensures delta { λ r.
-        ⌜ r
-        ≡ (not (eqb (getD (slotAt i (now (s .entry))) 2 0) 0) && deltaOk (take deltaWidth (drop deltaStart (slotAt i (now (s .entry)))))
-        && allZero (drop j (slotAt i (now (s .entry))))) ⌝ }
+// Whether the content at b is one of these marks.
+fn content_ok(s: &[u32], b: usize, place: u32, marks: u32) -> bool
+    requires inside { ⌜ b + contentWidth ≤ length (now s) ⌝ }
+    ensures content { λ r. ⌜ r ≡ marksTest place marks (take contentWidth (drop b (now (s .entry)))) ⌝ }
 {
-    if word(s, i, layout::PLACE) == 0 {
+    if marks % 4 == 0 {
+        if 8 <= marks {
+            return false;
+        }
+        return write_ok(s, b, place, marks);
+    }
+    if marks % 4 == 3 {
         return false;
     }
-    if !is_delta(s, 32 * i + layout::DELTA) {
-        return false;
-    }
-    rest_zero(s, i, j)
+    delta_ok(s, b, place, marks)
 }
 
-// Whether slot i has after its head what its form says.
-fn body_ok(s: &[u32], i: usize) -> bool
-    requires inside { ⌜ i < slotsIn (length (now s)) ⌝ }
-    ensures body { λ r. ⌜ r ≡ bodyTest (getD (slotAt i (now (s .entry))) 4 0) (slotAt i (now (s .entry))) ⌝ }
+// Whether a row is that of a fine entry.
+fn row_ok(s: &[u32], n: usize, page: usize, cell: usize) -> bool
+    requires valid { ⌜ Valid payloadWidth false n (now s) ⌝ }
+    requires there { ⌜ There payloadWidth n (now s) page cell ⌝ }
+    ensures row { λ r. ⌜ r ≡ rowOk (getD (rowsOf n (now (s .entry))) (positionIn n (now (s .entry)) page cell) noRow) ⌝ }
 {
-    let form = word(s, i, layout::FORM);
-    if form == layout::WRITE {
-        return write_ok(s, i);
-    }
-    if form == layout::DELTA_ALONE {
-        return delta_ok(s, i, layout::AFTER_DELTA);
-    }
-    delta_ok(s, i, layout::AFTER_SHORTCUT)
+    let b = read::content_at(s, n, WIDTH, false, page, cell);
+    let place = read::place_at(s, n, WIDTH, false, page, cell);
+    content_ok(s, b, place, read::marks_at(s, n, WIDTH, false, page, cell))
 }
 
-// Whether slot i is the slot of an entry.
-fn slot_ok(s: &[u32], i: usize) -> bool
-    requires inside { ⌜ i < slotsIn (length (now s)) ⌝ }
-    ensures slot { λ r. ⌜ r ≡ slotOk (slotAt i (now (s .entry))) ⌝ }
+// Whether each row is, one after the other.
+fn rows_ok(s: &[u32], n: usize) -> bool
+    requires valid { ⌜ Valid payloadWidth false n (now s) ⌝ }
+    ensures rows { λ r. ⌜ r ≡ every rowOk (rowsOf n (now (s .entry))) ⌝ }
 {
-    if !head_ok(s, i) {
-        return false;
+    let mut at = read::cell_after(s, n, WIDTH, false, 0, 0);
+    while at.is {
+        if !row_ok(s, n, at.page, at.cell) {
+            return false;
+        }
+        at = read::next(s, n, WIDTH, false, at.page, at.cell);
     }
-    body_ok(s, i)
-}
-
-// Whether slot i stands after the one before it.
-fn joins(s: &[u32], i: usize) -> bool
-    requires inside { ⌜ i < slotsIn (length (now s)) ⌝ }
-    ensures joined { λ r. ⌜ r ≡ joined isBefore i (now (s .entry)) ⌝ }
-{
-    if i == 0 {
-        return true;
-    }
-    in_order(s, i - 1, i)
+    true
 }
 
 // Rule 5: whether the words are those of a store that holds fine entries.
 pub fn is_valid(s: &[u32]) -> bool
     ensures valid { λ r. ⌜ r ≡ dataValid (now (s .entry)) ⌝ }
 {
-    let n = slot_count(s);
-    let mut i = 0;
-    while i < n {
-        if word(s, i, 0) == 0 {
-            return zero_from(s, i);
-        }
-        if !slot_ok(s, i) {
-            return false;
-        }
-        if !joins(s, i) {
-            return false;
-        }
-        i += 1;
+    if !is_store(s, WIDTH, false) {
+        return false;
     }
-    true
+    let n = read::units(s);
+    if n == 0 {
+        return true;
+    }
+    rows_ok(s, n)
 }

@@ -1,30 +1,38 @@
-// The walk of `VersionedValue::read` down the entries of a key.
-use crate::layout;
+// The walk of `VersionedValue::read` down the rows of a key.
+use crate::layout::WIDTH;
 use delta::Accumulator;
 use delta::Applied;
+use delta::DeltaOp;
+use directory::search::Spot;
 use number::Number;
-use store::slot::word;
+use store::read;
 use types::index::IndexOrStorage;
 use types::index::ShiftedTxnIndex;
 use types::output::MVDataOutput;
 use types::value::AsU128;
 use types::value::ValueWithLayout;
 ghost use mathlib.Core.Path.{_≡_};
-ghost use mathlib.Core.Bool.{true};
-ghost use Prim.Native.Nat.{_+_, _-_, _*_, _<_, _≤_};
-ghost use lib.ListN.{length, getD};
+ghost use mathlib.Core.Bool.{true, false};
+ghost use mathlib.Core.List.{[], _∷_, _++_};
+ghost use Prim.Native.Nat.{_+_, _-_, _%_, _≤_};
+ghost use lib.ListN.{length, getD, take, drop};
 ghost use Rattle.number.specs.Number.{valueOf};
-ghost use Rattle.delta.specs.Delta.{validSoFar};
-ghost use Rattle.delta.specs.Op.{exactly, accumulatorOf};
+ghost use Rattle.delta.specs.Delta.{accumulate, validSoFar};
+ghost use Rattle.delta.specs.Op.{exactly, accumulatorOf, opAt};
 ghost use Rattle.types.specs.Index.{wordOf};
 ghost use Rattle.types.specs.Value.{valueAt};
 ghost use Rattle.types.specs.ValueWithLayout.{wordsOf};
-ghost use Rattle.store.specs.Slots.{slotWidth, slotsIn};
-ghost use Rattle.model.specs.Data.{atEnd, onto, belowDeltas, atWrite, dependency, walk, readOf};
-ghost use Rattle.model.specs.Rows.{downAt};
-ghost use Rattle.versioned_data.specs.Layout.{entriesIn, dataValid};
+ghost use Rattle.store.specs.Held.{noRow};
+ghost use Rattle.store.specs.Valid.{There};
+ghost use Rattle.model.specs.Data.{atEnd, onto, belowDeltas, atWrite, dependency, versioned, readOf};
+ghost use Rattle.versioned_data.specs.Layout.{payloadWidth, deltaIn};
+ghost use Rattle.versioned_data.specs.Down.{downRows};
+ghost use Rattle.versioned_data.specs.Rows.{rowsOf, DataStore, positionIn, Met};
+ghost use Rattle.versioned_data.specs.Step.{noMarks, marksMet, deltasIn, stopped};
 ghost use Rattle.versioned_data.specs.Output.{outputOf};
-ghost use Rattle.versioned_data.specs.Step.{formMet};
+
+// The marks of no row: no row of the key is left.
+const NO_MARKS: u32 = 3;
 
 // What the walk finds where no entry is left.
 fn at_end(acc: Accumulator) -> MVDataOutput
@@ -83,18 +91,27 @@ fn dependency(at: ShiftedTxnIndex) -> MVDataOutput
     }
 }
 
-// The write in slot j, with the deltas of the walk above it.
-fn at_write(s: &[u32], j: usize, at: ShiftedTxnIndex, acc: Accumulator) -> MVDataOutput
-    requires inside { ⌜ j < slotsIn (length (now s)) ⌝ }
+// The write whose content is at b, with no delta above it.
+fn versioned(s: &[u32], b: usize, at: ShiftedTxnIndex) -> MVDataOutput
+    requires inside { ⌜ b + 20 ≤ length (now s) ⌝ }
+    ensures write { λ r. ⌜ r ≡ outputOf (versioned (wordOf at) (getD (now (s .entry)) b 0) (valueAt (b + 1) (now (s .entry)))) ⌝ }
+{
+    let incarnation = s[b];
+    let value = ValueWithLayout::read(s, b + 1);
+    MVDataOutput::Versioned(at, incarnation, value)
+}
+
+// The write whose content is at b, with the deltas of the walk above it.
+fn at_write(s: &[u32], b: usize, at: ShiftedTxnIndex, acc: Accumulator) -> MVDataOutput
+    requires inside { ⌜ b + 20 ≤ length (now s) ⌝ }
     requires valid { ⌜ validSoFar (exactly acc) ≡ true ⌝ }
     ensures write { λ r.
         ⌜ r
         ≡ outputOf
-        (atWrite (exactly acc) (wordOf at) (getD (now (s .entry)) (slotWidth * j + 6) 0)
-        (valueAt (slotWidth * j + 7) (now (s .entry)))) ⌝ }
+        (atWrite (exactly acc) (wordOf at) (getD (now (s .entry)) b 0) (valueAt (b + 1) (now (s .entry)))) ⌝ }
 {
-    let incarnation = word(s, j, layout::INCARNATION);
-    let v = ValueWithLayout::read(s, 32 * j + layout::VALUE);
+    let incarnation = s[b];
+    let v = ValueWithLayout::read(s, b + 1);
     match acc {
         Accumulator::Empty => MVDataOutput::Versioned(at, incarnation, v),
         Accumulator::Gathered(_) => below_deltas(acc, at, incarnation, v),
@@ -102,82 +119,136 @@ fn at_write(s: &[u32], j: usize, at: ShiftedTxnIndex, acc: Accumulator) -> MVDat
     }
 }
 
-// No form: no entry of the key is left, or it is an estimate.
-const NO_FORM: u32 = 3;
-
-// The form of the entry before position i, which a reader meets first, if it has the key and is done.
-fn form_at(s: &[u32], key: u32, i: usize) -> u32
-    requires store { ⌜ dataValid (now s) ≡ true ⌝ }
-    requires inside { ⌜ i ≤ length (entriesIn (now s)) ⌝ }
-    ensures form { λ r. ⌜ r ≡ formMet (downAt key i (entriesIn (now (s .entry)))) ⌝ }
+// The delta whose numbers are at b, with a sign.
+pub fn read_op(s: &[u32], b: usize, sign: u32) -> DeltaOp
+    requires inside { ⌜ b + 20 ≤ length (now s) ⌝ }
+    ensures op { λ r. ⌜ r ≡ opAt (take 16 (drop b (now (s .entry))) ++ (sign ∷ [])) ⌝ }
 {
-    if i == 0 {
-        return NO_FORM;
+    let limit = number::words::read(s, b);
+    let high = number::words::read(s, b + 4);
+    let low = number::words::read(s, b + 8);
+    let update = number::words::read(s, b + 12);
+    let sign = sign as u64;
+    DeltaOp {
+        limit,
+        high,
+        low,
+        update,
+        sign,
     }
-    let j = i - 1;
-    if word(s, j, layout::KEY) != key {
-        return NO_FORM;
-    }
-    if word(s, j, layout::FLAG) == layout::ESTIMATE {
-        return NO_FORM;
-    }
-    word(s, j, layout::FORM)
 }
 
-// What the walk finds where it stops: at the entry before position i, or with none of the key left.
-fn stop(s: &[u32], key: u32, i: usize, acc: Accumulator) -> MVDataOutput
-    requires store { ⌜ dataValid (now s) ≡ true ⌝ }
-    requires inside { ⌜ i ≤ length (entriesIn (now s)) ⌝ }
+// The marks of the row at a place, if there is one and it has the key.
+pub fn marks_met(s: &[u32], n: usize, key: u32, page: usize, cell: usize, is: bool) -> u32
+    requires store { ⌜ DataStore n (now s) ⌝ }
+    requires met { ⌜ Met n (now s) page cell is ⌝ }
+    ensures marks { λ r. ⌜ r ≡ marksMet key (positionIn n (now (s .entry)) page cell) (rowsOf n (now (s .entry))) ⌝ }
+{
+    if !is {
+        return NO_MARKS;
+    }
+    if read::key_at(s, n, WIDTH, false, page, cell) != key {
+        return NO_MARKS;
+    }
+    read::marks_at(s, n, WIDTH, false, page, cell)
+}
+
+// What the walk finds where it stops, by the marks that it meets there.
+fn stop(s: &[u32], n: usize, page: usize, cell: usize, marks: u32, acc: Accumulator) -> MVDataOutput
+    requires store { ⌜ DataStore n (now s) ⌝ }
+    requires there { ⌜ ((marks ≡ noMarks → ⊥) → There payloadWidth n (now s) page cell) ⌝ }
+    requires own { ⌜ ((marks ≡ noMarks → ⊥) → marks ≡ (getD (rowsOf n (now s)) (positionIn n (now s) page cell) noRow) .marks) ⌝ }
+    requires stops { ⌜ (marks % 8 ≡ 1 → ⊥) ⌝ }
     requires canonical { ⌜ acc ≡ accumulatorOf (exactly acc) ⌝ }
     requires valid { ⌜ validSoFar (exactly acc) ≡ true ⌝ }
-    requires stops { ⌜ (formMet (downAt key i (entriesIn (now s))) ≡ 1 → ⊥) ⌝ }
-    ensures found { λ r. ⌜ r ≡ outputOf (walk (exactly acc) (downAt key i (entriesIn (now (s .entry))))) ⌝ }
+    ensures found { λ r.
+        ⌜ r
+        ≡ outputOf
+        (stopped (exactly acc) marks (getD (rowsOf n (now (s .entry))) (positionIn n (now (s .entry)) page cell) noRow)) ⌝ }
 {
-    if i == 0 {
+    if marks == NO_MARKS {
         return at_end(acc);
     }
-    let j = i - 1;
-    if word(s, j, layout::KEY) != key {
-        return at_end(acc);
-    }
-    let at = ShiftedTxnIndex::from_word(word(s, j, layout::PLACE));
-    let flag = word(s, j, layout::FLAG);
-    if flag == layout::ESTIMATE {
+    let b = read::content_at(s, n, WIDTH, false, page, cell);
+    let at = ShiftedTxnIndex::from_word(read::place_at(s, n, WIDTH, false, page, cell));
+    if marks / 4 % 2 == 1 {
         return dependency(at);
     }
-    if word(s, j, layout::FORM) == layout::WRITE {
-        return at_write(s, j, at, acc);
+    if marks == 0 {
+        return at_write(s, b, at, acc);
     }
-    onto(acc, number::words::read(s, 32 * j + layout::SHORTCUT))
+    onto(acc, number::words::read(s, b + 16))
 }
 
-// The walk from the entry before position i down, while the key is the same: the shifted index falls at each call.
-pub fn walk(s: &[u32], key: u32, i: usize, acc: Accumulator) -> MVDataOutput
-    requires store { ⌜ dataValid (now s) ≡ true ⌝ }
-    requires inside { ⌜ i ≤ length (entriesIn (now s)) ⌝ }
-    requires canonical { ⌜ acc ≡ accumulatorOf (exactly acc) ⌝ }
+// What the walk has gathered past a done delta without a shortcut.
+fn past(s: &[u32], n: usize, page: usize, cell: usize, marks: u32, acc: Accumulator) -> Accumulator
+    requires store { ⌜ DataStore n (now s) ⌝ }
+    requires there { ⌜ There payloadWidth n (now s) page cell ⌝ }
+    requires own { ⌜ marks ≡ (getD (rowsOf n (now s)) (positionIn n (now s) page cell) noRow) .marks ⌝ }
+    requires delta { ⌜ marks % 8 ≡ 1 ⌝ }
     requires valid { ⌜ validSoFar (exactly acc) ≡ true ⌝ }
-    ensures found { λ r. ⌜ r ≡ outputOf (walk (exactly acc) (downAt key i (entriesIn (now (s .entry))))) ⌝ }
+    ensures gathered { λ r.
+        ⌜ r
+        ≡ accumulatorOf
+        (accumulate (exactly acc) (deltaIn (getD (rowsOf n (now (s .entry))) (positionIn n (now (s .entry)) page cell) noRow))) ⌝ }
 {
-    if form_at(s, key, i) != layout::DELTA_ALONE {
-        return stop(s, key, i, acc);
+    let b = read::content_at(s, n, WIDTH, false, page, cell);
+    let earlier = read_op(s, b, marks / 8);
+    acc.accumulate(earlier)
+}
+
+// How many done deltas without a shortcut a walk meets from a place down, while the key is the same, and those met before: the shifted index falls at
+// each call.
+fn deltas(s: &[u32], n: usize, key: u32, page: usize, cell: usize, is: bool, met: usize) -> usize
+    requires store { ⌜ DataStore n (now s) ⌝ }
+    requires met { ⌜ Met n (now s) page cell is ⌝ }
+    requires few { ⌜ met ≤ positionIn n (now s) page cell ⌝ }
+    ensures deltas { λ r. ⌜ r ≡ met + deltasIn (downRows key (positionIn n (now (s .entry)) page cell) (rowsOf n (now (s .entry)))) ⌝ }
+{
+    if marks_met(s, n, key, page, cell, is) % 8 != 1 {
+        return met;
     }
-    let j = i - 1;
-    let previous = delta::words::read(s, 32 * j + layout::DELTA);
-    let next = acc.accumulate(previous);
-    walk(s, key, j, next)
+    let to = read::next(s, n, WIDTH, false, page, cell);
+    deltas(s, n, key, to.page, to.cell, to.is, met + 1)
+}
+
+// The walk from a place down: past the deltas, which are merged one after the other, to where it stops.
+pub fn walk(s: &[u32], n: usize, key: u32, page: usize, cell: usize, is: bool) -> MVDataOutput
+    requires store { ⌜ DataStore n (now s) ⌝ }
+    requires met { ⌜ Met n (now s) page cell is ⌝ }
+    ensures found { λ r.
+        ⌜ r
+        ≡ outputOf (readOf (downRows key (positionIn n (now (s .entry)) page cell) (rowsOf n (now (s .entry))))) ⌝ }
+{
+    let mut rest = deltas(s, n, key, page, cell, is, 0);
+    let mut at = Spot {
+        page: page,
+        cell: cell,
+        is: is,
+    };
+    let mut acc = Accumulator::Empty;
+    while 0 < rest {
+        let marks = read::marks_at(s, n, WIDTH, false, at.page, at.cell);
+        acc = past(s, n, at.page, at.cell, marks, acc);
+        at = read::next(s, n, WIDTH, false, at.page, at.cell);
+        rest -= 1;
+    }
+    let marks = marks_met(s, n, key, at.page, at.cell, at.is);
+    stop(s, n, at.page, at.cell, marks, acc)
 }
 
 // The walk with nothing gathered. Nearly every read ends at a write right there, which is answered without the walk's accumulator.
-pub fn read_from(s: &[u32], key: u32, i: usize) -> MVDataOutput
-    requires store { ⌜ dataValid (now s) ≡ true ⌝ }
-    requires inside { ⌜ i ≤ length (entriesIn (now s)) ⌝ }
-    ensures found { λ r. ⌜ r ≡ outputOf (readOf (downAt key i (entriesIn (now (s .entry))))) ⌝ }
+pub fn read_from(s: &[u32], n: usize, key: u32, page: usize, cell: usize, is: bool) -> MVDataOutput
+    requires store { ⌜ DataStore n (now s) ⌝ }
+    requires met { ⌜ Met n (now s) page cell is ⌝ }
+    ensures found { λ r.
+        ⌜ r
+        ≡ outputOf (readOf (downRows key (positionIn n (now (s .entry)) page cell) (rowsOf n (now (s .entry))))) ⌝ }
 {
-    if form_at(s, key, i) != layout::WRITE {
-        return walk(s, key, i, Accumulator::Empty);
+    if marks_met(s, n, key, page, cell, is) != 0 {
+        return walk(s, n, key, page, cell, is);
     }
-    let j = i - 1;
-    let at = ShiftedTxnIndex::from_word(word(s, j, layout::PLACE));
-    at_write(s, j, at, Accumulator::Empty)
+    let b = read::content_at(s, n, WIDTH, false, page, cell);
+    let at = ShiftedTxnIndex::from_word(read::place_at(s, n, WIDTH, false, page, cell));
+    versioned(s, b, at)
 }

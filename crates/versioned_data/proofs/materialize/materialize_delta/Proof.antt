@@ -24,7 +24,7 @@ new-requires-2 : tie.Need-new-requires-2
 new-requires-2 c κs = search needs
 
 resolve-at-requires : tie.Need-resolve-at-requires
-resolve-at-requires c κs = search needs
+resolve-at-requires c κs = (c .before .before .before .before .before .before .before .before .before .pre .0, bound-above _ _ (c .new2 .ensures))
 
 same-length : tie.Need-same-length
 same-length c = search needs

@@ -1,110 +1,30 @@
 -- `versioned_data::scan::is_valid` meets its contract.
 -- Assumes nothing.
-use borrow.Author.Needs.{needs}
-use native.Mathlib.Omega.{arith}
-use mathlib.Core.Path.{_≡_, sym, _∙_}
-use mathlib.Core.Bool.{true}
-use Prim.Native.Nat.{_≤_, _-_}
-use lib.ListN.{length}
 use borrow.Author.Tests.{not-true, not-false}
-use Rattle.store.specs.Slots.{slotsIn, isBefore}
-use Rattle.store.proofs.SlotCompares.{word-used, word-unused}
-use Rattle.store.proofs.SlotScans.{
-  passed,
-  passed-none,
-  passed-more,
-  scan-done,
-  scan-stop,
-  scan-not-ok,
-  scan-not-joined,
-}
-use Rattle.versioned_data.specs.Layout.{slotOk}
-use Rattle.versioned_data.proofs.ScanSteps.{valid-sound}
+use borrow.Author.Needs.{needs}
+use Rattle.versioned_data.proofs.ScanSteps.{no-store, none-held, some-valid, some-held}
 use Rattle.versioned_data.proofs.scan.is_valid.Statement.{statement}
 use Rattle.versioned_data.proofs.scan.is_valid.Tie as tie
 
-abbrev Inv-loop : tie.InvT-loop
-Inv-loop s n i₀ i = (i ≤ n) × (n ≡ slotsIn (length s)) × (passed slotOk isBefore i s ≡ true)
+is-store-requires : tie.Need-is-store-requires
+is-store-requires c κs = search needs
 
-abbrev μ-loop : tie.MeasureT-loop
-μ-loop s n i₀ i = n - i
+returns : tie.Need-returns
+returns c = no-store _ _ (c .before .is-store .ensures) (not-true _ (c .if1 .taken))
 
-slot-count-requires : tie.Need-slot-count-requires Inv-loop μ-loop
-slot-count-requires c κs = search needs
+units-requires : tie.Need-units-requires
+units-requires c κs = search needs
 
-loop-holds : tie.Need-loop-holds Inv-loop μ-loop
-loop-holds c = (omega arith, c .slot-count .ensures, passed-none _ _ _)
+returns-2 : tie.Need-returns-2
+returns-2 c = none-held _ _ (c .before .before .before .is-store .ensures) (not-false _ (c .before .before .if1 .left)) _ (c .before .units .ensures) (c .if2 .taken)
 
-word-requires : tie.Need-word-requires Inv-loop μ-loop
-word-requires c κs = search needs
+rows-ok-requires : tie.Need-rows-ok-requires
+rows-ok-requires c κs = some-valid _ _ (c .before .before .before .is-store .ensures) (not-false _ (c .before .before .if1 .left)) _ (c .before .units .ensures) (c .if2 .left)
 
-zero-from-requires : tie.Need-zero-from-requires Inv-loop μ-loop
-zero-from-requires c κs = search needs
-
-returns : tie.Need-returns Inv-loop μ-loop
-returns c =
-    c .zero-from .ensures
-    ∙ scan-stop _ _ _ _ (omega arith) (c .before .before .before .before .loop .inv .2)
-    (word-unused _ _ (omega arith) _ (c .before .before .word .ensures) (c .before .if1 .taken))
-    ∙ sym (valid-sound _)
-
-slot-ok-requires : tie.Need-slot-ok-requires Inv-loop μ-loop
-slot-ok-requires c κs = search needs
-
-returns-2 : tie.Need-returns-2 Inv-loop μ-loop
-returns-2 c =
-    scan-not-ok _ _ _ _ (omega arith) (c .before .before .before .before .before .loop .inv .2)
-    (word-used _ _ (omega arith) _ (c .before .before .before .word .ensures) (c .before .before .if1 .left))
-    (sym (c .before .slot-ok .ensures) ∙ not-true _ (c .if2 .taken))
-    ∙ sym (valid-sound _)
-
-joins-requires : tie.Need-joins-requires Inv-loop μ-loop
-joins-requires c κs = search needs
-
-returns-3 : tie.Need-returns-3 Inv-loop μ-loop
-returns-3 c =
-    let at-loop = c .before .before .before .before .before .before .before in
-    scan-not-joined _ _ _ _ (omega arith) (at-loop .loop .inv .2)
-    (word-used _ _ (omega arith) _ (c .before .before .before .before .before .word .ensures) (c .before .before .before .before .if1 .left))
-    (sym (c .before .joins .ensures) ∙ not-true _ (c .if3 .taken))
-    ∙ sym (valid-sound _)
-
-add-i : tie.Need-add-i Inv-loop μ-loop
-add-i c = search needs
-
-loop-less : tie.Need-loop-less Inv-loop μ-loop
-loop-less c = search needs
-
-loop-again : tie.Need-loop-again Inv-loop μ-loop
-loop-again c =
-    let at-loop = c .before .before .before .before .before .before .before in (
-      omega arith,
-      at-loop .loop .inv .1,
-      passed-more _ _ _ _ (at-loop .loop .inv .2)
-          (word-used _ _ (omega arith) _ (c .before .before .before .before .before .word .ensures) (c .before .before .before .before .if1 .left))
-          (sym (c .before .before .before .slot-ok .ensures) ∙ not-false _ (c .before .before .if2 .left))
-          (sym (c .before .joins .ensures) ∙ not-false _ (c .if3 .left)),
-    )
-
-returns-4 : tie.Need-returns-4 Inv-loop μ-loop
-returns-4 c = scan-done _ _ _ _ (c .before .loop .inv .2) (omega arith) ∙ sym (valid-sound _)
+returns-3 : tie.Need-returns-3
+returns-3 c = some-held _ _ (c .before .before .before .before .is-store .ensures) (not-false _ (c .before .before .before .if1 .left)) _ (c .before .before .units .ensures) (c .before .if2 .left) _ (c .rows-ok .ensures)
 
 pub is-valid-spec : {M : Type 1} → statement M
 is-valid-spec =
     tie.close
-    (tie.spec
-    Inv-loop
-    μ-loop
-    slot-count-requires
-    loop-holds
-    word-requires
-    zero-from-requires
-    returns
-    slot-ok-requires
-    returns-2
-    joins-requires
-    returns-3
-    add-i
-    loop-less
-    loop-again
-    returns-4)
+    (tie.spec is-store-requires returns units-requires returns-2 rows-ok-requires returns-3)

@@ -1,55 +1,48 @@
 -- `versioned_data::scan::write_ok` meets its contract.
 -- Assumes nothing.
-use native.Mathlib.Omega.{arith}
+use borrow.Author.Tests.{not-true, not-false}
 use borrow.Author.Needs.{needs}
-use Rattle.types.proofs.ValueLaws.{read-words}
-use Rattle.store.proofs.StoreWords.{slot-inside, part-inside}
-use Rattle.versioned_data.proofs.ScanSteps.{write-value, write-place, write-rest}
+use Rattle.versioned_data.proofs.ScanSteps.{write-value, write-side, write-rest}
 use Rattle.versioned_data.proofs.scan.write_ok.Statement.{statement}
 use Rattle.versioned_data.proofs.scan.write_ok.Tie as tie
 
-mul-read : tie.Need-mul-read
-mul-read c = omega (arith, slot-inside _ _ (c .before .pre))
+add-value-ok : tie.Need-add-value-ok
+add-value-ok c = search needs
 
-add-read : tie.Need-add-read
-add-read c = omega (arith, slot-inside _ _ (c .before .pre))
-
-read-requires : tie.Need-read-requires
-read-requires c κs = part-inside _ 7 7 _ (c .before .pre) (omega arith)
-
-ok-requires : tie.Need-ok-requires
-ok-requires c κs = search needs
+value-ok-requires : tie.Need-value-ok-requires
+value-ok-requires c κs = search needs
 
 returns : tie.Need-returns
-returns c = write-value _ _ _ (read-words (c .before .before .before .before .args .s .now) _ _ (λ i. c .before .before .before .shared-slice-known .given i .fits) (part-inside _ 7 7 _ (c .before .before .before .before .pre) (omega arith)) (c .before .before .read .ensures)) _ (c .before .ok .ensures) (c .if1 .taken)
+returns c = write-value (c .before .before .before .args .s .now) _ _ _ (c .before .before .before .pre) _ (c .before .value-ok .ensures) (not-true _ (c .if1 .taken))
 
-place-ok-requires : tie.Need-place-ok-requires
-place-ok-requires c κs = search needs
+side-ok-requires : tie.Need-side-ok-requires
+side-ok-requires c κs = search needs
 
 returns-2 : tie.Need-returns-2
-returns-2 c =
-    let at-start = c .before .before .before .before .before .before in
-    write-place _ _ _ (read-words (at-start .args .s .now) _ _ (λ i. c .before .before .before .before .before .shared-slice-known .given i .fits) (part-inside _ 7 7 _ (at-start .pre) (omega arith)) (c .before .before .before .before .read .ensures)) _ (c .before .before .before .ok .ensures) (c .before .before .if1 .left) _ (c .before .place-ok .ensures) (c .if2 .taken)
+returns-2 c = write-side (c .before .before .before .before .before .args .s .now) _ _ _ (c .before .before .before .before .before .pre) _ (c .before .before .before .value-ok .ensures) (not-false _ (c .before .before .if1 .left)) _ (c .before .side-ok .ensures) (not-true _ (c .if2 .taken))
 
-rest-zero-requires : tie.Need-rest-zero-requires
-rest-zero-requires c κs = search needs
+add-all-zero : tie.Need-add-all-zero
+add-all-zero c = search needs
+
+add-all-zero-2 : tie.Need-add-all-zero-2
+add-all-zero-2 c = search needs
+
+all-zero-requires : tie.Need-all-zero-requires
+all-zero-requires c κs = search needs
 
 returns-3 : tie.Need-returns-3
-returns-3 c =
-    let at-start = c .before .before .before .before .before .before .before in
-    let at-shared-slice-known = c .before .before .before .before .before .before in
-    write-rest _ _ _ (read-words (at-start .args .s .now) _ _ (λ i. at-shared-slice-known .shared-slice-known .given i .fits) (part-inside _ 7 7 _ (at-start .pre) (omega arith)) (c .before .before .before .before .before .read .ensures)) _ (c .before .before .before .before .ok .ensures) (c .before .before .before .if1 .left) _ (c .before .before .place-ok .ensures) (c .before .if2 .left) _ (c .rest-zero .ensures)
+returns-3 c = write-rest (c .before .before .before .before .before .before .args .s .now) _ _ _ (c .before .before .before .before .before .before .pre) _ (c .before .before .before .before .value-ok .ensures) (not-false _ (c .before .before .before .if1 .left)) _ (c .before .before .side-ok .ensures) (not-false _ (c .before .if2 .left)) _ (c .all-zero .ensures)
 
 pub write-ok-spec : {M : Type 1} → statement M
 write-ok-spec =
     tie.close
     (tie.spec
-    mul-read
-    add-read
-    read-requires
-    ok-requires
+    add-value-ok
+    value-ok-requires
     returns
-    place-ok-requires
+    side-ok-requires
     returns-2
-    rest-zero-requires
+    add-all-zero
+    add-all-zero-2
+    all-zero-requires
     returns-3)

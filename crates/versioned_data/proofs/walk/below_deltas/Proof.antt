@@ -1,7 +1,7 @@
 -- `versioned_data::walk::below_deltas` meets its contract.
 -- Assumes nothing.
-use borrow.Author.Needs.{needs}
 use mathlib.Core.Path.{sym, _∙_}
+use borrow.Author.Needs.{needs}
 use Rattle.versioned_data.proofs.WalkAnswers.{below-layout, below-deleted, below-number, below-none}
 use Rattle.versioned_data.proofs.walk.below_deltas.Statement.{statement}
 use Rattle.versioned_data.proofs.walk.below_deltas.Tie as tie
