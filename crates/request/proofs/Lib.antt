@@ -11,3 +11,5 @@ pub mod TableRule
 pub mod SetTags
 pub mod TableTails
 mod WordFields
+mod DataRules
+pub mod DataFields

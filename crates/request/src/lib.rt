@@ -7,6 +7,7 @@ ghost use mathlib.Core.Path.{_≡_};
 ghost use Rattle.request.specs.Checked.{checkOf};
 
 pub mod asked;
+pub mod data;
 pub mod fields;
 pub mod head;
 pub mod index;

@@ -37,7 +37,7 @@ pub struct Row {
 struct Tail(u8, u8, u8, u8);
 
 // A row in bytes, so that the whole table is a few words: `fixed`, the tail, `value`, `index`, and how often a request adds to its index.
-struct Cells(u8, Tail, u8, u8, u8);
+pub struct Cells(pub u8, Tail, u8, u8, pub u8);
 
 const VALUE: u8 = VALUE_WIDTH as u8;
 
@@ -47,7 +47,7 @@ const NO_TAIL: Tail = Tail(0, 0, 0, 0);
 const VALUES: Tail = Tail(1, VALUE, 0, 0);
 
 // An index to which nothing is added can be any word.
-const LARGEST: u32 = 4294967295;
+pub const LARGEST: u32 = 4294967295;
 
 const TABLE: [Cells; 16] = [
     // 0: last committed
@@ -75,7 +75,7 @@ const TABLE: [Cells; 16] = [
 // The largest count of words after a head: a group write of all tags.
 pub const LONGEST_COUNT: usize = 5 + VALUE_WIDTH * MOST_TAGS;
 
-fn cells_of(kind: usize) -> Cells
+pub fn cells_of(kind: usize) -> Cells
     requires four_bits { ⌜ kind < 16 ⌝ }
     ensures cells { λ r. ⌜ r ≡ cellsOf (rowOf kind) ⌝ }
 {
