@@ -7,33 +7,33 @@ use native.Mathlib.Omega.{arith}
 use lib.Dec.{lit≤}
 use lib.ListN.{length}
 use Rattle.lists.proofs.Bools.{true-not-false}
-use Rattle.mvhashmap.specs.Call.{Lent}
-use Rattle.history.specs.Whole.{requestsIn, linesOf, lentAfter}
+use Rattle.mvhashmap.specs.Call.{View}
+use Rattle.history.specs.Whole.{requestsIn, linesOf, viewAfter}
 use Rattle.history.specs.State.{unread, emptied, start}
-use Rattle.history.specs.Turn.{linesAhead, lentAhead, Turned}
+use Rattle.history.specs.Turn.{linesAhead, viewAhead, Turned}
 use Rattle.history.specs.Ran.{Ran}
 use Rattle.history.specs.declared.state.State.{State}
 use Rattle.history.proofs.TurnSteps.{turned-then, turned-written}
 
 -- At the start nothing waits and nothing is unread.
-start-lines : (b : List ℕ) (l : Lent) (o rest : List ℕ) → linesAhead start b l o rest ≡ linesOf (requestsIn rest) l
+start-lines : (b : List ℕ) (l : View) (o rest : List ℕ) → linesAhead start b l o rest ≡ linesOf (requestsIn rest) l
 unfolding linesAhead unread
 start-lines b l o rest = refl
 
-start-lent : (b : List ℕ) (l : Lent) (rest : List ℕ) → lentAhead start b l rest ≡ lentAfter (requestsIn rest) l
-unfolding lentAhead unread
-start-lent b l rest = refl
+start-view : (b : List ℕ) (l : View) (rest : List ℕ) → viewAhead start b l rest ≡ viewAfter (requestsIn rest) l
+unfolding viewAhead unread
+start-view b l rest = refl
 
 -- At the end too.
-end-lines : (s : State) (b : List ℕ) (l : Lent) (o rest : List ℕ) → s .stop ≡ true → s .put ≡ 0 → linesAhead s b l o rest ≡ []
+end-lines : (s : State) (b : List ℕ) (l : View) (o rest : List ℕ) → s .stop ≡ true → s .put ≡ 0 → linesAhead s b l o rest ≡ []
 unfolding linesAhead
 end-lines s b l o rest e f = rw (e, f) refl
 
-end-lent : (s : State) (b : List ℕ) (l : Lent) (rest : List ℕ) → s .stop ≡ true → lentAhead s b l rest ≡ l
-unfolding lentAhead
-end-lent s b l rest e = rw e refl
+end-view : (s : State) (b : List ℕ) (l : View) (rest : List ℕ) → s .stop ≡ true → viewAhead s b l rest ≡ l
+unfolding viewAhead
+end-view s b l rest e = rw e refl
 
-module _ (b : List ℕ) (l : Lent) (o : List ℕ) (r : State) (c : List ℕ) (m : Lent) (p : List ℕ) (x : Turned start b l o r c m p) where
+module _ (b : List ℕ) (l : View) (o : List ℕ) (r : State) (c : List ℕ) (m : View) (p : List ℕ) (x : Turned start b l o r c m p) where
   start-got : r .got ≡ length (x .read)
   start-got = omega (arith, x .got)
 
@@ -43,8 +43,8 @@ module _ (b : List ℕ) (l : Lent) (o : List ℕ) (r : State) (c : List ℕ) (m 
   all-lines : (rest : List ℕ) → (r .over ≡ true → rest ≡ []) → linesOf (requestsIn (x .read ++ rest)) l ≡ x .written ++ linesAhead r c m p rest
   all-lines rest h = sym (start-lines b l o (x .read ++ rest)) ∙ x .lines rest h
 
-  all-lent : (rest : List ℕ) → (r .over ≡ true → rest ≡ []) → lentAfter (requestsIn (x .read ++ rest)) l ≡ lentAhead r c m rest
-  all-lent rest h = sym (start-lent b l (x .read ++ rest)) ∙ x .lent rest h
+  all-view : (rest : List ℕ) → (r .over ≡ true → rest ≡ []) → viewAfter (requestsIn (x .read ++ rest)) l ≡ viewAhead r c m rest
+  all-view rest h = sym (start-view b l (x .read ++ rest)) ∙ x .view rest h
 
   ran : (r .failed ≡ false → (r .stop ≡ true) × (r .put ≡ 0)) → Ran l r m
   ran done =
@@ -57,7 +57,7 @@ module _ (b : List ℕ) (l : Lent) (o : List ℕ) (r : State) (c : List ℕ) (m 
         lines =
             λ f rest h.
             all-lines rest h ∙ ap (λ (k : List ℕ). x .written ++ k) (end-lines r c m p rest (done f .0) (done f .1)) ∙ append-nil (x .written);
-        lent = λ f rest h. all-lent rest h ∙ end-lent r c m rest (done f .0);
+        view = λ f rest h. all-view rest h ∙ end-view r c m rest (done f .0);
         front = λ rest h. (linesAhead r c m p rest, all-lines rest h);
       }
 
@@ -65,7 +65,7 @@ module _ (b : List ℕ) (l : Lent) (o : List ℕ) (r : State) (c : List ℕ) (m 
   ran-failed e = ran (λ f. true-not-false (r .failed) e f)
 
 -- It stopped, and what waits then is written.
-module _ (b : List ℕ) (l : Lent) (o : List ℕ) (s : State) (c : List ℕ) (m : Lent) (p : List ℕ) (x : Turned start b l o s c m p) where
+module _ (b : List ℕ) (l : View) (o : List ℕ) (s : State) (c : List ℕ) (m : View) (p : List ℕ) (x : Turned start b l o s c m p) where
   end-stop : (failed : Bool) → emptied s failed .stop ≡ s .stop
   unfolding emptied
   end-stop failed = refl

@@ -10,17 +10,17 @@ use lib.Seq.{sets, sets-eq, length-sets, length-take-le, take-add, drop-at, drop
 use borrow.Author.Tests.{eqb-true, eqb-false, eq-eqb, ne-eqb}
 use Rattle.lists.proofs.Bools.{never}
 use Rattle.types.specs.Response.{answerWidth}
-use Rattle.mvhashmap.specs.Call.{Lent, Called, callOf, refusedBy}
+use Rattle.mvhashmap.specs.Call.{View, CalledView, callOf, refusedBy}
 use Rattle.mvhashmap.specs.Run.{seenOf}
 use Rattle.history.specs.Input.{requestIn, decided}
 use Rattle.history.specs.Line.{lineOf}
-use Rattle.history.specs.Whole.{requestsIn, linesOf, lentAfter}
+use Rattle.history.specs.Whole.{requestsIn, linesOf, viewAfter}
 use Rattle.history.specs.State.{Within, unread, budget}
-use Rattle.history.specs.Turn.{lineFor, after, Answered, linesAhead, lentAhead, Turned}
+use Rattle.history.specs.Turn.{lineFor, after, Answered, linesAhead, viewAhead, Turned}
 use Rattle.history.specs.declared.state.State.{State}
 use Rattle.history.proofs.InputRequests.{request-fits, request-none}
 use Rattle.history.proofs.InputDecided.{decided-few, requestIn-decided}
-use Rattle.history.proofs.WholeLaws.{linesOf-none, lentAfter-none, linesOf-next, lentAfter-next}
+use Rattle.history.proofs.WholeLaws.{linesOf-none, viewAfter-none, linesOf-next, viewAfter-next}
 use Rattle.history.proofs.StateLaws.{length-unread, less-answered}
 use Rattle.history.proofs.TurnCalls.{callOf-nothing}
 use Rattle.history.proofs.TurnSteps.{none-read, none-sent}
@@ -70,7 +70,7 @@ take-sets o line n h =
     ∙ take-append-add (take n o ++ line) (drop (n + length line) o) 0
     ∙ append-nil (take n o ++ line)
 
-module _ (s : State) (b : List ℕ) (l : Lent) (o : List ℕ) (within : Within (length b) s) (long : answerWidth ≤ length (l .out))
+module _ (s : State) (b : List ℕ) (l : View) (o : List ℕ) (within : Within (length b) s) (long : answerWidth ≤ length (l .out))
     (ready : s .over || decided (unread s b) ≡ true) (stop : s .stop ≡ false) where
   abbrev u : List ℕ
   u = unread s b
@@ -78,8 +78,8 @@ module _ (s : State) (b : List ℕ) (l : Lent) (o : List ℕ) (within : Within (
   abbrev t : List ℕ
   t = requestIn (unread s b)
 
-  abbrev left : Lent
-  left = callOf (requestIn (unread s b)) l .lent
+  abbrev left : View
+  left = callOf (requestIn (unread s b)) l .view
 
   line-some : (length u ≡ 0 → ⊥) → lineFor u l ≡ lineOf (seenOf (callOf t l))
   unfolding lineFor
@@ -94,7 +94,7 @@ module _ (s : State) (b : List ℕ) (l : Lent) (o : List ℕ) (within : Within (
 
   left-none : length u ≡ 0 → left ≡ l
   unfolding refusedBy
-  left-none z = ap (λ (k : List ℕ). callOf k l .lent) (request-empty z) ∙ ap (λ (k : Called). k .lent) (callOf-nothing l long)
+  left-none z = ap (λ (k : List ℕ). callOf k l .view) (request-empty z) ∙ ap (λ (k : CalledView). k .view) (callOf-nothing l long)
 
   module _ (rest : List ℕ) (h : s .over ≡ true → rest ≡ []) where
     next-drop : drop (4 * length t) (u ++ rest) ≡ drop (4 * length t) u ++ rest
@@ -120,19 +120,19 @@ module _ (s : State) (b : List ℕ) (l : Lent) (o : List ℕ) (within : Within (
             let some : length u ≡ 0 → ⊥ = eqb-false (length u) 0 e in
             rw (line-some some, sym next-drop) (linesOf-next (u ++ rest) t l (more some) first)
 
-    lent-next : lentAfter (requestsIn (u ++ rest)) l
-        ≡ cond (eqb (length t) 0) left (lentAfter (requestsIn (drop (4 * length t) u ++ rest)) left)
-    lent-next = go (eqb (length u) 0) refl
+    view-next : viewAfter (requestsIn (u ++ rest)) l
+        ≡ cond (eqb (length t) 0) left (viewAfter (requestsIn (drop (4 * length t) u ++ rest)) left)
+    view-next = go (eqb (length u) 0) refl
       where
-        go : (v : Bool) → eqb (length u) 0 ≡ v → lentAfter (requestsIn (u ++ rest)) l
-            ≡ cond (eqb (length t) 0) left (lentAfter (requestsIn (drop (4 * length t) u ++ rest)) left)
+        go : (v : Bool) → eqb (length u) 0 ≡ v → viewAfter (requestsIn (u ++ rest)) l
+            ≡ cond (eqb (length t) 0) left (viewAfter (requestsIn (drop (4 * length t) u ++ rest)) left)
         go true e =
             let z : length u ≡ 0 = eqb-true (length u) 0 e in
             let last : eqb (length t) 0 ≡ true = ap (λ (k : List ℕ). eqb (length k) 0) (request-empty z) in
-            rw last (lentAfter-none (u ++ rest) l (settled-nothing (s .over) u rest ready h z) ∙ sym (left-none z))
+            rw last (viewAfter-none (u ++ rest) l (settled-nothing (s .over) u rest ready h z) ∙ sym (left-none z))
         go false e =
             let some : length u ≡ 0 → ⊥ = eqb-false (length u) 0 e in
-            rw (sym next-drop) (lentAfter-next (u ++ rest) t l (more some) first)
+            rw (sym next-drop) (viewAfter-next (u ++ rest) t l (more some) first)
 
   used : s .at + 4 * length t ≤ s .end
   used = omega (arith, within .from, within .to, request-fits u .1, length-unread s b within)
@@ -159,12 +159,12 @@ module _ (s : State) (b : List ℕ) (l : Lent) (o : List ℕ) (within : Within (
           take (s .put + length (lineFor u l)) (sets o (s .put) (lineFor u l)) ++ cond (eqb (length t) 0) [] (linesOf (requestsIn (k ++ rest)) left))
           (sym (unread-after (lineFor u l)))
 
-      after-lent : lentAhead s b l rest ≡ lentAhead (after s u (lineFor u l)) b left rest
-      unfolding lentAhead after
-      after-lent =
-          ap (λ (v : Bool). cond v l (lentAfter (requestsIn (u ++ rest)) l)) stop
-          ∙ lent-next rest h
-          ∙ ap (λ (k : List ℕ). cond (eqb (length t) 0) left (lentAfter (requestsIn (k ++ rest)) left)) (sym (unread-after (lineFor u l)))
+      after-view : viewAhead s b l rest ≡ viewAhead (after s u (lineFor u l)) b left rest
+      unfolding viewAhead after
+      after-view =
+          ap (λ (v : Bool). cond v l (viewAfter (requestsIn (u ++ rest)) l)) stop
+          ∙ view-next rest h
+          ∙ ap (λ (k : List ℕ). cond (eqb (length t) 0) left (viewAfter (requestsIn (k ++ rest)) left)) (sym (unread-after (lineFor u l)))
 
     turned-after : Turned s b l o (after s u (lineFor u l)) b left (sets o (s .put) (lineFor u l))
     unfolding after
@@ -176,11 +176,11 @@ module _ (s : State) (b : List ℕ) (l : Lent) (o : List ℕ) (within : Within (
           sent = none-sent (s .sent);
           ended = λ e. (refl, e);
           lines = after-lines;
-          lent = after-lent;
+          view = after-view;
         }
 
-  pub turned-answered : (r : State) (l′ : Lent) (p : List ℕ) → r .put ≤ length p → Answered s u l o r l′ p → Turned s b l o r b l′ p
-  turned-answered r l′ p h x = rw (x .state, x .lent, x .line) (turned-after fits)
+  pub turned-answered : (r : State) (l′ : View) (p : List ℕ) → r .put ≤ length p → Answered s u l o r l′ p → Turned s b l o r b l′ p
+  turned-answered r l′ p h x = rw (x .state, x .view, x .line) (turned-after fits)
     where
       put-after : after s u (lineFor u l) .put ≡ s .put + length (lineFor u l)
       put-after = after-put s u (lineFor u l)

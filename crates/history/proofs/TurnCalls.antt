@@ -1,5 +1,5 @@
 -- Laws of the call that the next request makes, and of what it leaves.
-use mathlib.Core.Path.{_≡_, refl, sym, ap, _∙_}
+use mathlib.Core.Path.{_≡_, refl, sym, ap, subst, _∙_}
 use mathlib.Core.Bool.{Bool, true, false, _||_}
 use mathlib.Core.List.{List, [], _∷_}
 use Prim.Native.Nat.{ℕ, suc, _+_, _-_, _*_, _<_, _≤_}
@@ -23,10 +23,10 @@ use Rattle.model.proofs.FineParts.{words-every}
 use Rattle.model.proofs.RuleFacts.{headCounts, answers}
 use Rattle.model.proofs.StepFacts.{proper, step-proper, step-answers}
 use Rattle.versioned_group_data.specs.Ruled.{answerIn}
-use Rattle.mvhashmap.specs.Call.{Lent, Called, sound, modelIn, fixedOf, earlyRefusal, refusedBy, calledBy, callOf, Calls}
+use Rattle.mvhashmap.specs.Call.{Lent, sound, modelIn, fixedOf, View, viewOf, CalledView, earlyRefusal, refusedBy, calledBy, callOf, Calls}
 use Rattle.mvhashmap.specs.Run.{shown, seenOf}
 use Rattle.mvhashmap.proofs.DemandTotal.{total}
-use Rattle.mvhashmap.proofs.StoresSound.{modelIn-fine, callOf-long, callOf-sound}
+use Rattle.mvhashmap.proofs.StoresSound.{modelIn-fine, callOf-long, calls-sound}
 use Rattle.mvhashmap.proofs.CallOrder.{long-slice}
 use Rattle.history.specs.Input.{requestIn}
 use Rattle.history.specs.Line.{lineOf}
@@ -38,11 +38,11 @@ use Rattle.history.proofs.LineLaws.{shown-short}
 use Rattle.history.proofs.StateLaws.{length-unread}
 
 -- Every call refuses no words by 2.
-pub callOf-nothing : (l : Lent) → answerWidth ≤ length (l .out) → callOf [] l ≡ refusedBy wrongCount l
+pub callOf-nothing : (v : View) → answerWidth ≤ length (v .out) → callOf [] v ≡ refusedBy wrongCount v
 unfolding callOf earlyRefusal firstOf unlessRefused calledBy refusalOf shapeOk
-callOf-nothing l h =
+callOf-nothing v h =
     let short : ltb (rowAt [] .fixed) 0 ≡ false = le-ltb (rowAt [] .fixed) 0 (omega arith) in
-    rw (long-slice (l .out) h, short) refl
+    rw (long-slice (v .out) h, short) refl
 
 -- ---- an answer's head counts fewer words than the longest answer has
 
@@ -54,16 +54,16 @@ few-answer (head ∷ words) out c f =
     let count : countIn head ≡ countIn (length words) = eqb-true (countIn head) (countIn (length words)) c in
     omega arith
 
-few-called : (l : Lent) (r : Ruling Model) → proper r ≡ true → answers fineAnswer r ≡ true → calledBy l r .result ≡ 0 → countIn (getD (calledBy l r .lent .out) 0 0) < answerWidth
+few-called : (v : View) (r : Ruling Model) → proper r ≡ true → answers fineAnswer r ≡ true → calledBy v r .result ≡ 0 → countIn (getD (calledBy v r .view .out) 0 0) < answerWidth
 unfolding calledBy refusedBy proper answers
-few-called l (refuse n) p f e = true-not-false (eqb n 0) (eq-eqb n 0 e) (refusal-nonzero n p)
-few-called l (accept answer m) p f e = few-answer answer (l .out) p f
+few-called v (refuse n) p f e = true-not-false (eqb n 0) (eq-eqb n 0 e) (refusal-nonzero n p)
+few-called v (accept answer m) p f e = few-answer answer (v .out) p f
 
 module _ (t : List ℕ) (l : Lent) (valid : sound (l .stores) ≡ true) (words : every isWord t ≡ true) (long : answerWidth ≤ length (l .out)) where
-  pub callOf-few : callOf t l .result ≡ 0 → countIn (getD (callOf t l .lent .out) 0 0) < answerWidth
+  pub callOf-few : callOf t (viewOf l) .result ≡ 0 → countIn (getD (callOf t (viewOf l) .view .out) 0 0) < answerWidth
   callOf-few =
-      rw (callOf-long t l valid long)
-      (few-called l (step (fixedOf (l .stores)) (modelIn (l .stores)) t) (step-proper (fixedOf (l .stores)) (modelIn (l .stores)) t)
+      rw (callOf-long t (viewOf l) valid long)
+      (few-called (viewOf l) (step (fixedOf (l .stores)) (modelIn (l .stores)) t) (step-proper (fixedOf (l .stores)) (modelIn (l .stores)) t)
       (step-answers (fixedOf (l .stores)) (modelIn (l .stores)) t (modelIn-fine (l .stores) valid) words))
 
 few-digits : every (λ m. ltb m 100) refusals ≡ true
@@ -79,12 +79,12 @@ number-small n h = go (eqb n 0) refl h
     go true e k = omega (arith, eqb-true n 0 e)
     go false e k = ltb-true n 100 (isIn-every (λ m. ltb m 100) n refusals few-digits (rw e at k))
 
-shown-seen : (t : List ℕ) (l : Lent) (r : ℕ) (after : Lent) → Calls t l r after → shown r (after .out) ≡ seenOf (callOf t l)
+shown-seen : (t : List ℕ) (l : Lent) (r : ℕ) (after : Lent) → Calls t l r after → shown r (after .out) ≡ seenOf (callOf t (viewOf l))
 unfolding seenOf
 shown-seen t l r after k = ap seenOf (k .called)
 
 -- Nothing is unread, so nothing is put, and the run stops.
-module _ (s : State) (b : List ℕ) (l : Lent) (o : List ℕ) (within : Within (length b) s) (long : answerWidth ≤ length (l .out)) (e : s .at ≡ s .end) where
+module _ (s : State) (b : List ℕ) (l : View) (o : List ℕ) (within : Within (length b) s) (long : answerWidth ≤ length (l .out)) (e : s .at ≡ s .end) where
   empty : length (unread s b) ≡ 0
   empty = omega (arith, length-unread s b within)
 
@@ -102,7 +102,7 @@ module _ (s : State) (b : List ℕ) (l : Lent) (o : List ℕ) (within : Within (
   unfolding after refusedBy
   answered-nothing =
       record {
-        lent = sym (ap (λ (c : Called). c .lent) same);
+        view = sym (ap (λ (c : CalledView). c .view) same);
         line = rw no-line refl;
         state = rw (no-line, none, at, put) refl;
       }
@@ -139,11 +139,16 @@ module _ (s : State) (b w₀ w : List ℕ) (l l′ : Lent) (n r : ℕ) (within :
   all-words : every isWord (requestIn (unread s b)) ≡ true
   all-words = rw (sym taken) (words-every (take n w) (words-take n w words))
 
-  result : r ≡ callOf (requestIn (unread s b)) l .result
-  result = ap (λ (c : Called). c .result) (its-call .called)
+  result : r ≡ callOf (requestIn (unread s b)) (viewOf l) .result
+  result = ap (λ (c : CalledView). c .result) (its-call .called)
 
-  left : l′ ≡ callOf (requestIn (unread s b)) l .lent
-  left = ap (λ (c : Called). c .lent) (its-call .called)
+  left : viewOf l′ ≡ callOf (requestIn (unread s b)) (viewOf l) .view
+  left = ap (λ (c : CalledView). c .view) (its-call .called)
+
+  few : r ≡ 0 → countIn (getD (l′ .out) 0 0) < answerWidth
+  few e =
+      let h = callOf-few (requestIn (unread s b)) l valid all-words long (sym result ∙ e) in
+      subst (λ (v : View). countIn (getD (v .out) 0 0) < answerWidth) (sym left) h
 
   pub served : Served s b l l′ n r
   served =
@@ -151,9 +156,9 @@ module _ (s : State) (b w₀ w : List ℕ) (l l′ : Lent) (n r : ℕ) (within :
         called = its-call;
         count = count;
         used = omega (arith, within .from, count, request-fits (unread s b) .1, length-unread s b within);
-        small = rw result (number-small (callOf (requestIn (unread s b)) l .result) (total (requestIn (unread s b)) l .number));
-        few = λ e. rw left (callOf-few (requestIn (unread s b)) l valid all-words long (sym result ∙ e));
-        sound = rw left (callOf-sound (requestIn (unread s b)) l valid all-words);
+        small = number-small r (total (requestIn (unread s b)) l r l′ its-call .number);
+        few = few;
+        sound = calls-sound (requestIn (unread s b)) l r l′ its-call valid;
       }
 
 -- Its line is put.
@@ -162,17 +167,17 @@ module _ (s : State) (b : List ℕ) (l l′ : Lent) (n r put : ℕ) (m : Served 
   shown-fits h = omega (arith, shown-short r (l′ .out) h (m .few))
 
   module _ (o p : List ℕ) (within : Within (length b) s) (some : s .at ≡ s .end → ⊥) (line : p ≡ sets o (s .put) (lineOf (shown r (l′ .out)))) where
-    its-line : lineOf (shown r (l′ .out)) ≡ lineFor (unread s b) l
+    its-line : lineOf (shown r (l′ .out)) ≡ lineFor (unread s b) (viewOf l)
     unfolding lineFor
     its-line =
         let h : length (unread s b) ≡ 0 → ⊥ = λ z. some (omega (arith, within .from, length-unread s b within)) in
         rw (ne-eqb (length (unread s b)) 0 h) (ap lineOf (shown-seen (requestIn (unread s b)) l r l′ (m .called)))
 
-    pub answered-request : Answered s (unread s b) l o (record { at = s .at + 4 * n; end = s .end; put = put; got = s .got; sent = s .sent; over = s .over; stop = eqb n 0; failed = s .failed }) l′ p
+    pub answered-request : Answered s (unread s b) (viewOf l) o (record { at = s .at + 4 * n; end = s .end; put = put; got = s .got; sent = s .sent; over = s .over; stop = eqb n 0; failed = s .failed }) (viewOf l′) p
     unfolding after
     answered-request =
         record {
-          lent = ap (λ (c : Called). c .lent) (m .called .called);
+          view = ap (λ (c : CalledView). c .view) (m .called .called);
           line = line ∙ ap (λ (x : List ℕ). sets o (s .put) x) its-line;
           state =
               λ i.

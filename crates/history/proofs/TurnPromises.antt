@@ -6,7 +6,7 @@ use Prim.Native.Nat.{ℕ, _+_, _-_, _^_, _<_, _≤_}
 use native.Mathlib.Omega.{arith}
 use lib.ListN.{length}
 use Rattle.types.specs.Response.{answerWidth}
-use Rattle.mvhashmap.specs.Call.{Lent, sound}
+use Rattle.mvhashmap.specs.Call.{View}
 use Rattle.history.specs.State.{Within, unread, wantsMore, emptied, readOn, ReadOn, gaveUp, budget}
 use Rattle.history.specs.Turn.{lineFor, Answered, Turned}
 use Rattle.history.specs.declared.state.State.{State}
@@ -14,11 +14,11 @@ use Rattle.history.proofs.StateLaws.{wanted, settled, budget-written, b
 use Rattle.history.proofs.TurnSteps.{turned-written, turned-gave-up, turned-read}
 use Rattle.history.proofs.TurnAnswers.{budget-answered, turned-answered}
 
-abbrev Goes : State → List ℕ → Lent → List ℕ → State → List ℕ → Lent → List ℕ → Type 0
-Goes s b l o r c m p = Within (length c) r × ((r .put ≤ length p) × ((sound (m .stores) ≡ true) × ((budget r < budget s) × Turned s b l o r c m p)))
+abbrev Goes : State → List ℕ → View → List ℕ → State → List ℕ → View → List ℕ → Type 0
+Goes s b l o r c m p = Within (length c) r × ((r .put ≤ length p) × ((m .stores .sound ≡ true) × ((budget r < budget s) × Turned s b l o r c m p)))
 
-module _ (s : State) (b : List ℕ) (l : Lent) (o : List ℕ) where
-  module _ (within : Within (length b) s) (waits : s .put ≤ length o) (valid : sound (l .stores) ≡ true) (goes-on : s .failed ≡ false) where
+module _ (s : State) (b : List ℕ) (l : View) (o : List ℕ) where
+  module _ (within : Within (length b) s) (waits : s .put ≤ length o) (valid : l .stores .sound ≡ true) (goes-on : s .failed ≡ false) where
     emptied-goes : (failed : Bool) → 0 < s .put → Goes s b l o (emptied s failed) b l o
     unfolding emptied
     emptied-goes failed some = (
@@ -37,7 +37,7 @@ module _ (s : State) (b : List ℕ) (l : Lent) (o : List ℕ) where
     pub goes-gave-up : (r : State) → r ≡ gaveUp s → Goes s b l o r b l o
     goes-gave-up r e = subst (λ (k : State). Goes s b l o k b l o) (sym e) gave-up-goes
 
-  module _ (waits : s .put ≤ length o) (valid : sound (l .stores) ≡ true) (wants : wantsMore s b ≡ true) (r : State) (c : List ℕ)
+  module _ (waits : s .put ≤ length o) (valid : l .stores .sound ≡ true) (wants : wantsMore s b ≡ true) (r : State) (c : List ℕ)
       (x : Within (length c) r × ReadOn s b r c) (counts : s .got + length c < 2 ^ 64) where
     end-read : r .end ≡ s .end - s .at + length (x .1 .more)
     unfolding readOn
@@ -56,8 +56,8 @@ module _ (s : State) (b : List ℕ) (l : Lent) (o : List ℕ) where
     goes-read = (x .0, (omega (arith, put-read), (valid, (less, turned-read s b l o r c (wanted s b wants .0) (x .1)))))
 
   module _ (within : Within (length b) s) (long : answerWidth ≤ length (l .out)) (settles : wantsMore s b ≡ false) (stop : s .stop ≡ false)
-      (r : State) (m : Lent) (p : List ℕ)
-      (x : Within (length b) r × ((r .put ≤ length p) × ((sound (m .stores) ≡ true) × Answered s (unread s b) l o r m p))) where
+      (r : State) (m : View) (p : List ℕ)
+      (x : Within (length b) r × ((r .put ≤ length p) × ((m .stores .sound ≡ true) × Answered s (unread s b) l o r m p))) where
     pub goes-answered : Goes s b l o r b m p
     goes-answered = (
       x .0,

@@ -9,10 +9,10 @@ use lib.Dec.{lit≤}
 use lib.ListN.{length, take, length-append}
 use lib.Seq.{length-take-le}
 use Rattle.lists.proofs.Bools.{true-not-false}
-use Rattle.mvhashmap.specs.Call.{Lent}
-use Rattle.history.specs.Whole.{requestsIn, linesOf, lentAfter}
+use Rattle.mvhashmap.specs.Call.{View}
+use Rattle.history.specs.Whole.{requestsIn, linesOf, viewAfter}
 use Rattle.history.specs.State.{unread, emptied, readOn, ReadOn, gaveUp}
-use Rattle.history.specs.Turn.{linesAhead, lentAhead, Turned}
+use Rattle.history.specs.Turn.{linesAhead, viewAhead, Turned}
 use Rattle.history.specs.declared.state.State.{State}
 
 -- ---- none, and one after the other
@@ -23,7 +23,7 @@ none-read n = omega arith
 pub none-sent : (n : ℕ) → n < 2 ^ 64 → n ≡ (n + 0) % 2 ^ 64
 none-sent n h = sym (mod-eq-of-lt h) ∙ ap (λ (k : ℕ). k % 2 ^ 64) (none-read n)
 
-pub turned-none : (s : State) (b : List ℕ) (l : Lent) (o : List ℕ) → Turned s b l o s b l o
+pub turned-none : (s : State) (b : List ℕ) (l : View) (o : List ℕ) → Turned s b l o s b l o
 turned-none s b l o =
     record {
       read = [];
@@ -32,10 +32,10 @@ turned-none s b l o =
       sent = none-sent (s .sent);
       ended = λ e. (refl, e);
       lines = λ rest h. refl;
-      lent = λ rest h. refl;
+      view = λ rest h. refl;
     }
 
-module _ (s : State) (b : List ℕ) (l : Lent) (o : List ℕ) (r : State) (c : List ℕ) (m : Lent) (p : List ℕ) (t : State) (d : List ℕ) (n : Lent) (q : List ℕ)
+module _ (s : State) (b : List ℕ) (l : View) (o : List ℕ) (r : State) (c : List ℕ) (m : View) (p : List ℕ) (t : State) (d : List ℕ) (n : View) (q : List ℕ)
     (x : Turned s b l o r c m p) (y : Turned r c m p t d n q) where
   both-sent : s .sent < 2 ^ 64 → t .sent ≡ (s .sent + length (x .written ++ y .written)) % 2 ^ 64
   both-sent h =
@@ -63,9 +63,9 @@ module _ (s : State) (b : List ℕ) (l : Lent) (o : List ℕ) (r : State) (c : L
         ∙ ap (λ (k : List ℕ). x .written ++ k) (y .lines rest h)
         ∙ sym (append-assoc (x .written) (y .written) (linesAhead t d n q rest))
 
-    both-lent : lentAhead s b l ((x .read ++ y .read) ++ rest) ≡ lentAhead t d n rest
-    both-lent =
-        ap (λ (k : List ℕ). lentAhead s b l k) (append-assoc (x .read) (y .read) rest) ∙ x .lent (y .read ++ rest) then-rest ∙ y .lent rest h
+    both-view : viewAhead s b l ((x .read ++ y .read) ++ rest) ≡ viewAhead t d n rest
+    both-view =
+        ap (λ (k : List ℕ). viewAhead s b l k) (append-assoc (x .read) (y .read) rest) ∙ x .view (y .read ++ rest) then-rest ∙ y .view rest h
 
   pub turned-then : Turned s b l o t d n q
   turned-then =
@@ -76,13 +76,13 @@ module _ (s : State) (b : List ℕ) (l : Lent) (o : List ℕ) (r : State) (c : L
         sent = both-sent;
         ended = both-ended;
         lines = both-lines;
-        lent = both-lent;
+        view = both-view;
       }
 
 -- ---- what waits is written
 
-pub turned-written : (s : State) (b : List ℕ) (l : Lent) (o : List ℕ) (failed : Bool) → s .put ≤ length o → Turned s b l o (emptied s failed) b l o
-unfolding linesAhead lentAhead emptied unread
+pub turned-written : (s : State) (b : List ℕ) (l : View) (o : List ℕ) (failed : Bool) → s .put ≤ length o → Turned s b l o (emptied s failed) b l o
+unfolding linesAhead viewAhead emptied unread
 turned-written s b l o failed h =
     record {
       read = [];
@@ -91,13 +91,13 @@ turned-written s b l o failed h =
       sent = λ k. ap (λ (n : ℕ). (s .sent + n) % 2 ^ 64) (sym (length-take-le (s .put) o h));
       ended = λ e. (refl, e);
       lines = λ rest e. refl;
-      lent = λ rest e. refl;
+      view = λ rest e. refl;
     }
 
 -- ---- no more bytes can be counted
 
-pub turned-gave-up : (s : State) (b : List ℕ) (l : Lent) (o : List ℕ) → Turned s b l o (gaveUp s) b l o
-unfolding linesAhead lentAhead gaveUp unread
+pub turned-gave-up : (s : State) (b : List ℕ) (l : View) (o : List ℕ) → Turned s b l o (gaveUp s) b l o
+unfolding linesAhead viewAhead gaveUp unread
 turned-gave-up s b l o =
     record {
       read = [];
@@ -106,12 +106,12 @@ turned-gave-up s b l o =
       sent = none-sent (s .sent);
       ended = λ e. (refl, e);
       lines = λ rest h. refl;
-      lent = λ rest h. refl;
+      view = λ rest h. refl;
     }
 
 -- ---- more is read
 
-module _ (s : State) (b : List ℕ) (l : Lent) (o : List ℕ) (r : State) (c : List ℕ) (goes-on : s .over ≡ false) (x : ReadOn s b r c) where
+module _ (s : State) (b : List ℕ) (l : View) (o : List ℕ) (r : State) (c : List ℕ) (goes-on : s .over ≡ false) (x : ReadOn s b r c) where
   got : r .got ≡ s .got + length (x .more)
   unfolding readOn
   got = ap (λ (t : State). t .got) (x .state)
@@ -138,11 +138,11 @@ module _ (s : State) (b : List ℕ) (l : Lent) (o : List ℕ) (r : State) (c : L
       ∙ ap (λ (n : ℕ). take n o ++ cond (s .stop) [] (linesOf (requestsIn (unread r c ++ rest)) l)) (sym put)
       ∙ ap (λ (v : Bool). take (r .put) o ++ cond v [] (linesOf (requestsIn (unread r c ++ rest)) l)) (sym stop)
 
-  read-lent : (rest : List ℕ) → lentAhead s b l (x .more ++ rest) ≡ lentAhead r c l rest
-  unfolding lentAhead
-  read-lent rest =
-      ap (λ (k : List ℕ). cond (s .stop) l (lentAfter (requestsIn k) l)) (sym (more-first rest))
-      ∙ ap (λ (v : Bool). cond v l (lentAfter (requestsIn (unread r c ++ rest)) l)) (sym stop)
+  read-view : (rest : List ℕ) → viewAhead s b l (x .more ++ rest) ≡ viewAhead r c l rest
+  unfolding viewAhead
+  read-view rest =
+      ap (λ (k : List ℕ). cond (s .stop) l (viewAfter (requestsIn k) l)) (sym (more-first rest))
+      ∙ ap (λ (v : Bool). cond v l (viewAfter (requestsIn (unread r c ++ rest)) l)) (sym stop)
 
   pub turned-read : Turned s b l o r c l o
   turned-read =
@@ -153,5 +153,5 @@ module _ (s : State) (b : List ℕ) (l : Lent) (o : List ℕ) (r : State) (c : L
         sent = λ h. sent ∙ none-sent (s .sent) h;
         ended = λ e. true-not-false (s .over) e goes-on;
         lines = λ rest h. read-lines rest;
-        lent = λ rest h. read-lent rest;
+        view = λ rest h. read-view rest;
       }

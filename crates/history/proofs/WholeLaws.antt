@@ -7,11 +7,11 @@ use native.Mathlib.Omega.{arith}
 use lib.Dec.{eqb}
 use lib.ListN.{length, drop, length-drop}
 use borrow.Author.Tests.{eqb-false, eq-eqb, ne-eqb}
-use Rattle.mvhashmap.specs.Call.{Lent, callOf}
+use Rattle.mvhashmap.specs.Call.{View, callOf}
 use Rattle.mvhashmap.specs.Run.{seenOf}
 use Rattle.history.specs.Input.{requestIn}
 use Rattle.history.specs.Line.{lineOf}
-use Rattle.history.specs.Whole.{requestsBy, requestsIn, linesOf, lentAfter}
+use Rattle.history.specs.Whole.{requestsBy, requestsIn, linesOf, viewAfter}
 
 -- The bytes after the first request.
 abbrev afterFirst : List ℕ → List ℕ
@@ -63,36 +63,36 @@ requestsIn-next b some =
         let used : length (requestIn b) ≡ 0 → ⊥ = eqb-false (length (requestIn b)) 0 e in
         requestsBy-enough (length b - 1) (length (afterFirst b)) (afterFirst b) (omega (arith, length-drop (4 * length (requestIn b)) b)) (omega arith)
 
--- Their lines, and what they leave.
-pub linesOf-none : (b : List ℕ) (l : Lent) → length b ≡ 0 → linesOf (requestsIn b) l ≡ []
+-- Their lines, and what is known of what they leave.
+pub linesOf-none : (b : List ℕ) (l : View) → length b ≡ 0 → linesOf (requestsIn b) l ≡ []
 unfolding linesOf
 linesOf-none b l e = rw (requestsIn-none b e) refl
 
-pub lentAfter-none : (b : List ℕ) (l : Lent) → length b ≡ 0 → lentAfter (requestsIn b) l ≡ l
-unfolding lentAfter
-lentAfter-none b l e = rw (requestsIn-none b e) refl
+pub viewAfter-none : (b : List ℕ) (l : View) → length b ≡ 0 → viewAfter (requestsIn b) l ≡ l
+unfolding viewAfter
+viewAfter-none b l e = rw (requestsIn-none b e) refl
 
 -- The bytes b start with the request t, which is no longer than they are; where it has no words it is the last.
-module _ (b t : List ℕ) (l : Lent) (some : length b ≡ 0 → ⊥) (first : requestIn b ≡ t) where
+module _ (b t : List ℕ) (l : View) (some : length b ≡ 0 → ⊥) (first : requestIn b ≡ t) where
   next : requestsIn b ≡ t ∷ cond (eqb (length t) 0) [] (requestsIn (drop (4 * length t) b))
   next = rw first at (requestsIn-next b some)
 
   pub linesOf-next : linesOf (requestsIn b) l
-      ≡ lineOf (seenOf (callOf t l)) ++ cond (eqb (length t) 0) [] (linesOf (requestsIn (drop (4 * length t) b)) (callOf t l .lent))
+      ≡ lineOf (seenOf (callOf t l)) ++ cond (eqb (length t) 0) [] (linesOf (requestsIn (drop (4 * length t) b)) (callOf t l .view))
   unfolding linesOf
   linesOf-next = rw next (ap (λ (x : List ℕ). lineOf (seenOf (callOf t l)) ++ x) (go (eqb (length t) 0)))
     where
-      go : (v : Bool) → linesOf (cond v [] (requestsIn (drop (4 * length t) b))) (callOf t l .lent)
-          ≡ cond v [] (linesOf (requestsIn (drop (4 * length t) b)) (callOf t l .lent))
+      go : (v : Bool) → linesOf (cond v [] (requestsIn (drop (4 * length t) b))) (callOf t l .view)
+          ≡ cond v [] (linesOf (requestsIn (drop (4 * length t) b)) (callOf t l .view))
       go true = refl
       go false = refl
 
-  pub lentAfter-next : lentAfter (requestsIn b) l
-      ≡ cond (eqb (length t) 0) (callOf t l .lent) (lentAfter (requestsIn (drop (4 * length t) b)) (callOf t l .lent))
-  unfolding lentAfter
-  lentAfter-next = rw next (go (eqb (length t) 0))
+  pub viewAfter-next : viewAfter (requestsIn b) l
+      ≡ cond (eqb (length t) 0) (callOf t l .view) (viewAfter (requestsIn (drop (4 * length t) b)) (callOf t l .view))
+  unfolding viewAfter
+  viewAfter-next = rw next (go (eqb (length t) 0))
     where
-      go : (v : Bool) → lentAfter (cond v [] (requestsIn (drop (4 * length t) b))) (callOf t l .lent)
-          ≡ cond v (callOf t l .lent) (lentAfter (requestsIn (drop (4 * length t) b)) (callOf t l .lent))
+      go : (v : Bool) → viewAfter (cond v [] (requestsIn (drop (4 * length t) b))) (callOf t l .view)
+          ≡ cond v (callOf t l .view) (viewAfter (requestsIn (drop (4 * length t) b)) (callOf t l .view))
       go true = refl
       go false = refl

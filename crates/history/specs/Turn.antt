@@ -7,17 +7,17 @@ use Prim.Native.Nat.{ℕ, _+_, _*_, _%_, _^_, _<_}
 use lib.Dec.{eqb}
 use lib.ListN.{length, take}
 use lib.Seq.{sets}
-use Rattle.mvhashmap.specs.Call.{Lent, callOf}
+use Rattle.mvhashmap.specs.Call.{View, callOf}
 use Rattle.mvhashmap.specs.Run.{seenOf}
 use Rattle.history.specs.Input.{requestIn}
 use Rattle.history.specs.Line.{lineOf}
-use Rattle.history.specs.Whole.{requestsIn, linesOf, lentAfter}
+use Rattle.history.specs.Whole.{requestsIn, linesOf, viewAfter}
 use Rattle.history.specs.State.{unread, MayFollow}
 use Rattle.history.specs.declared.state.State.{State}
 
--- The line for the unread bytes u, over what is lent to the call. No input prints nothing.
-unfoldable pub lineFor : List ℕ → Lent → List ℕ
-lineFor u l = cond (eqb (length u) 0) [] (lineOf (seenOf (callOf (requestIn u) l)))
+-- The line for the unread bytes u, by what is known of what is lent to the call. No input prints nothing.
+unfoldable pub lineFor : List ℕ → View → List ℕ
+lineFor u v = cond (eqb (length u) 0) [] (lineOf (seenOf (callOf (requestIn u) v)))
 
 -- The state after that line.
 unfoldable pub after : State → List ℕ → List ℕ → State
@@ -34,22 +34,22 @@ after s u line =
     }
 
 -- The request that the unread bytes u start with is answered.
-pub record Answered (s : State) (u : List ℕ) (l : Lent) (o : List ℕ) (r : State) (l-after : Lent) (o-after : List ℕ) : Type 0 where
-  pub lent : l-after ≡ callOf (requestIn u) l .lent
-  pub line : o-after ≡ sets o (s .put) (lineFor u l)
-  pub state : r ≡ after s u (lineFor u l)
+pub record Answered (s : State) (u : List ℕ) (v : View) (o : List ℕ) (r : State) (v-after : View) (o-after : List ℕ) : Type 0 where
+  pub view : v-after ≡ callOf (requestIn u) v .view
+  pub line : o-after ≡ sets o (s .put) (lineFor u v)
+  pub state : r ≡ after s u (lineFor u v)
 
 -- What is yet to be written where `rest` is all that is yet to be read: the lines that wait, and those of the requests to come.
-unfoldable pub linesAhead : State → List ℕ → Lent → List ℕ → List ℕ → List ℕ
-linesAhead s b l o rest = take (s .put) o ++ cond (s .stop) [] (linesOf (requestsIn (unread s b ++ rest)) l)
+unfoldable pub linesAhead : State → List ℕ → View → List ℕ → List ℕ → List ℕ
+linesAhead s b v o rest = take (s .put) o ++ cond (s .stop) [] (linesOf (requestsIn (unread s b ++ rest)) v)
 
--- What the requests to come leave of what is lent.
-unfoldable pub lentAhead : State → List ℕ → Lent → List ℕ → Lent
-lentAhead s b l rest = cond (s .stop) l (lentAfter (requestsIn (unread s b ++ rest)) l)
+-- What is known of what is lent after the requests to come.
+unfoldable pub viewAhead : State → List ℕ → View → List ℕ → View
+viewAhead s b v rest = cond (s .stop) v (viewAfter (requestsIn (unread s b ++ rest)) v)
 
--- Some turns, from a state, the bytes b and o of its buffers and what is lent: whatever is yet to be read, what was to be written is what was handed
+-- Some turns, from a state, the bytes b and o of its buffers and what is known of what is lent: whatever is yet to be read, what was to be written is what was handed
 -- to write and then what is yet to be written.
-pub record Turned (s : State) (b : List ℕ) (l : Lent) (o : List ℕ) (r : State) (c : List ℕ) (l-after : Lent) (o-after : List ℕ) : Type 0 where
+pub record Turned (s : State) (b : List ℕ) (v : View) (o : List ℕ) (r : State) (c : List ℕ) (v-after : View) (o-after : List ℕ) : Type 0 where
   -- the bytes that reads brought, and those that were handed to write
   pub read : List ℕ
   pub written : List ℕ
@@ -57,5 +57,5 @@ pub record Turned (s : State) (b : List ℕ) (l : Lent) (o : List ℕ) (r : Stat
   pub sent : s .sent < 2 ^ 64 → r .sent ≡ (s .sent + length written) % 2 ^ 64
   -- nothing is read where the input is over, and it stays over
   pub ended : s .over ≡ true → (read ≡ []) × (r .over ≡ true)
-  pub lines : (rest : List ℕ) → MayFollow r rest → linesAhead s b l o (read ++ rest) ≡ written ++ linesAhead r c l-after o-after rest
-  pub lent : (rest : List ℕ) → MayFollow r rest → lentAhead s b l (read ++ rest) ≡ lentAhead r c l-after rest
+  pub lines : (rest : List ℕ) → MayFollow r rest → linesAhead s b v o (read ++ rest) ≡ written ++ linesAhead r c v-after o-after rest
+  pub view : (rest : List ℕ) → MayFollow r rest → viewAhead s b v (read ++ rest) ≡ viewAhead r c v-after rest

@@ -1,11 +1,11 @@
--- 01, "History program": what is printed for the bytes of a whole input, and what the calls leave. "A head counting over 453 words, or a cut end,
+-- 01, "History program": what is printed for the bytes of a whole input, and what is known of what the calls leave. "A head counting over 453 words, or a cut end,
 -- prints `no 2` and stops." "prints a line a ticket".
 use mathlib.Core.Bool.{cond}
 use mathlib.Core.List.{List, [], _∷_, _++_}
 use Prim.Native.Nat.{ℕ, zero, suc, _*_}
 use lib.Dec.{eqb}
 use lib.ListN.{length, drop}
-use Rattle.mvhashmap.specs.Call.{Lent, callOf}
+use Rattle.mvhashmap.specs.Call.{View, callOf}
 use Rattle.mvhashmap.specs.Run.{seenOf}
 use Rattle.history.specs.Input.{requestIn}
 use Rattle.history.specs.Line.{lineOf}
@@ -22,10 +22,10 @@ unfoldable pub requestsIn : List ℕ → List (List ℕ)
 requestsIn b = requestsBy (length b) b
 
 -- A line for each request, in their order; each call meets what the one before it left.
-unfoldable pub linesOf : List (List ℕ) → Lent → List ℕ
-linesOf [] l = []
-linesOf (t ∷ ts) l = lineOf (seenOf (callOf t l)) ++ linesOf ts (callOf t l .lent)
+unfoldable pub linesOf : List (List ℕ) → View → List ℕ
+linesOf [] v = []
+linesOf (t ∷ ts) v = lineOf (seenOf (callOf t v)) ++ linesOf ts (callOf t v .view)
 
-unfoldable pub lentAfter : List (List ℕ) → Lent → Lent
-lentAfter [] l = l
-lentAfter (t ∷ ts) l = lentAfter ts (callOf t l .lent)
+unfoldable pub viewAfter : List (List ℕ) → View → View
+viewAfter [] v = v
+viewAfter (t ∷ ts) v = viewAfter ts (callOf t v .view)

@@ -13,7 +13,7 @@ ghost use Prim.Native.Nat.{suc, _≤_};
 ghost use lib.ListN.{length};
 ghost use Rattle.types.specs.Response.{answerWidth};
 ghost use Rattle.request.specs.Table.{longestCount};
-ghost use Rattle.mvhashmap.specs.Call.{stores, lent, sound};
+ghost use Rattle.mvhashmap.specs.Call.{stores, lent, sound, viewOf};
 ghost use Rattle.history.specs.State.{longestRequest, longestLine};
 ghost use Rattle.history.specs.Ran.{Ran};
 
@@ -36,7 +36,7 @@ fn run(
     requires sound { ⌜ sound (stores (now «data») (now group)) ≡ true ⌝ }
     requires answer { ⌜ answerWidth ≤ length (now answer) ⌝ }
     requires room { ⌜ longestLine ≤ length (now out) ⌝ }
-    ensures ran { λ r. ⌜ Ran (lent (now («data» .entry)) (now (group .entry)) (now (answer .entry))) r (lent (now («data» .exit)) (now (group .exit)) (now (answer .exit))) ⌝ }
+    ensures ran { λ r. ⌜ Ran (viewOf (lent (now («data» .entry)) (now (group .entry)) (now (answer .entry)))) r (viewOf (lent (now («data» .exit)) (now (group .exit)) (now (answer .exit)))) ⌝ }
 {
     let mut s = State {
         at: 0,

@@ -11,7 +11,7 @@ ghost use Prim.Native.Nat.{suc, _+_, _<_, _≤_};
 ghost use lib.ListN.{length};
 ghost use Rattle.types.specs.Response.{answerWidth};
 ghost use Rattle.request.specs.Table.{longestCount};
-ghost use Rattle.mvhashmap.specs.Call.{stores, lent, sound};
+ghost use Rattle.mvhashmap.specs.Call.{stores, lent, sound, viewOf};
 ghost use Rattle.history.specs.State.{longestRequest, longestLine, Within, unread, budget};
 ghost use Rattle.history.specs.Turn.{Answered, Turned};
 
@@ -33,7 +33,7 @@ fn answered(
     ensures within { λ r. ⌜ Within (length (now (bytes .entry))) r ⌝ }
     ensures waits { λ r. ⌜ r .put ≤ length (now (out .exit)) ⌝ }
     ensures sound { λ _. ⌜ sound (stores (now («data» .exit)) (now (group .exit))) ≡ true ⌝ }
-    ensures answered { λ r. ⌜ Answered s (unread s (now (bytes .entry))) (lent (now («data» .entry)) (now (group .entry)) (now (answer .entry))) (now (out .entry)) r (lent (now («data» .exit)) (now (group .exit)) (now (answer .exit))) (now (out .exit)) ⌝ }
+    ensures answered { λ r. ⌜ Answered s (unread s (now (bytes .entry))) (viewOf (lent (now («data» .entry)) (now (group .entry)) (now (answer .entry)))) (now (out .entry)) r (viewOf (lent (now («data» .exit)) (now (group .exit)) (now (answer .exit)))) (now (out .exit)) ⌝ }
 {
     let at = s.at;
     let end = s.end;
@@ -88,7 +88,7 @@ pub fn turn(
     ensures waits { λ r. ⌜ r .put ≤ length (now (out .exit)) ⌝ }
     ensures sound { λ _. ⌜ sound (stores (now («data» .exit)) (now (group .exit))) ≡ true ⌝ }
     ensures less { λ r. ⌜ budget r < budget s ⌝ }
-    ensures turned { λ r. ⌜ Turned s (now (bytes .entry)) (lent (now («data» .entry)) (now (group .entry)) (now (answer .entry))) (now (out .entry)) r (now (bytes .exit)) (lent (now («data» .exit)) (now (group .exit)) (now (answer .exit))) (now (out .exit)) ⌝ }
+    ensures turned { λ r. ⌜ Turned s (now (bytes .entry)) (viewOf (lent (now («data» .entry)) (now (group .entry)) (now (answer .entry)))) (now (out .entry)) r (now (bytes .exit)) (viewOf (lent (now («data» .exit)) (now (group .exit)) (now (answer .exit)))) (now (out .exit)) ⌝ }
 {
     let put = s.put;
     let got = s.got;

@@ -23,7 +23,7 @@ use Rattle.model.specs.Model.{ruled}
 use Rattle.versioned_data.specs.Layout as Data
 use Rattle.versioned_data.specs.Layout.{entriesIn, dataValid}
 use Rattle.versioned_data.specs.Materialize.{materializedRead, materializedOf}
-use Rattle.versioned_data.proofs.EntryRulings.{lack-leave, lack-present}
+use Rattle.versioned_data.proofs.EntryLacks.{lack-leave, lack-present}
 use Rattle.group_slots.specs.Layout as Group
 use Rattle.group_slots.specs.Layout.{Groups}
 use Rattle.versioned_group_data.specs.Ruled as Ruled

@@ -17,16 +17,15 @@ use Rattle.request.proofs.CheckAnswers.{Passed, accepted-passed}
 use Rattle.request.proofs.CheckPasses.{kind-is}
 use Rattle.request.proofs.RequestAsks as Asks
 use Rattle.model.specs.Fine.{isWord, fineMembers, fineRequest}
-use Rattle.model.proofs.FineParts.{words-every}
 use Rattle.model.proofs.FineRequests.{requestOf-fine}
 use Rattle.versioned_group_data.specs.Members.{membersAt}
 use Rattle.mvhashmap.specs.Served.{Asked}
 
-pub group-base-fine : (t : List ℕ) (f : Fields) (o : List ℕ) → Asked t f o → AreWords t → f .kind ≡ 8 → fineMembers 0 (membersAt (f .set) (f .value) t) ≡ true
+pub group-base-fine : (t : List ℕ) (f : Fields) (o : List ℕ) → Asked t f o → f .kind ≡ 8 → fineMembers 0 (membersAt (f .set) (f .value) t) ≡ true
 unfolding membersAt fineRequest
-group-base-fine t f o a w k =
+group-base-fine t f o a k =
     and-right (isWord (f .key)) (fineMembers 0 (membersOf (tagsOf (f .set .low) (f .set .high)) (drop (f .value) t)))
-    (sym (ap fineRequest (Asks.asks-group-base t f (passed .fields) k)) ∙ requestOf-fine t (words-every t w) (passed .refusal))
+    (sym (ap fineRequest (Asks.asks-group-base t f (passed .fields) k)) ∙ requestOf-fine t (a .words) (passed .refusal))
   where
     passed : Passed t f
     passed = accepted-passed t f (a .checked)

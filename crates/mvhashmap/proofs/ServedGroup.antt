@@ -6,32 +6,36 @@ use mathlib.Core.List.{List, []}
 use mathlib.Core.Option.{Option}
 use Prim.Native.Nat.{ℕ, zero, suc}
 use lib.Dec.{eqb, eqb·suc-zero}
+use lib.ListN.{length}
 use Rattle.lists.specs.Lists.{every}
 use Rattle.types.specs.Response.{response, wroteOutsideKind}
 use Rattle.types.specs.declared.output.MVGroupOutput.{MVGroupOutput}
 use Rattle.types.specs.declared.output.MVGroupOutput.the-variants.{Uninitialized}
-use Rattle.request.specs.Request.{requestOf}
+use Rattle.types.specs.Units.{unitsIn}
+use Rattle.types.proofs.UnitLaws.{lack-none}
 use Rattle.request.specs.Set.{Member}
 use Rattle.model.specs.Rows.{Row, find, downFrom, Edit, edited}
 use Rattle.model.specs.Data.{Ruling, refuse, accept, doneAnswer}
 use Rattle.model.specs.Group.{Update, Committed, Commits, commits, membersIn, outside, writeGroup, latest, hasBase, fetchTaggedData, allTags, sizeOver, getGroupSize, committedAnswer, getLastCommittedGroup, finalizeGroup}
-use Rattle.model.specs.Model.{readGroup, editGroup, commitGroup, workOf, ruled}
+use Rattle.model.specs.Model.{readGroup, editGroup, commitGroup, ruled}
 use Rattle.model.specs.Fine.{fineUpdate}
 use Rattle.model.proofs.RowMaps.{every-downFrom}
 use Rattle.model.proofs.FineGroupReads.{latest-fine}
-use Rattle.group_slots.specs.Layout.{Groups, groupsIn, groupValid, lackIn, fitsIn}
+use Rattle.group_slots.specs.Layout.{Groups, groupsIn, groupValid, heldBy, lackIn, fitsIn}
 use Rattle.versioned_group_data.specs.Ruled.{editing, withGroupCommits, committing, resultOf, answerIn, answerAfter, Ruled, Answered}
+use Rattle.versioned_group_data.specs.Left.{LeftIf, LeftBy}
 use Rattle.versioned_group_data.specs.Output.{latestOutput, sizeOutput}
 use Rattle.versioned_group_data.specs.Written.{writtenOf, Writes}
 use Rattle.versioned_group_data.specs.declared.update.Written.{Written}
 use Rattle.versioned_group_data.specs.declared.update.Written.the-variants.{Done, Outside}
-use Rattle.group_slots.proofs.GroupHolding.{holding-groups, every-valid, few-valid}
-use Rattle.versioned_group_data.proofs.GroupRulings.{answered-done}
+use Rattle.group_slots.proofs.GroupHolding.{every-valid, few-valid}
 use Rattle.mvhashmap.specs.Answer.{respond, doneRuling, groupOutputRuling, resultBy, outBy, Put}
 use Rattle.mvhashmap.specs.GroupAnswer.{writtenRuling}
 use Rattle.mvhashmap.specs.Served.{ServesGroup}
 use Rattle.mvhashmap.proofs.AnswerPuts.{put-accepted}
 use Rattle.mvhashmap.proofs.AnswerOutputs.{latest-kept, size-kept}
+use Rattle.mvhashmap.proofs.AskedData.{Asks}
+use Rattle.mvhashmap.proofs.StoresLeft.{group-left, committed-left}
 use Rattle.mvhashmap.proofs.ServedWorks.{toldOf, told, reads-group, edits-group, commits-group}
 use Rattle.mvhashmap.proofs.AnswerDones.{IsDone, ruled-done, done-told, group-number}
 
@@ -67,78 +71,88 @@ module _ (w : Written) (o : List ℕ) where
   unfolding writtenRuling respond
   outside-written out e h = put-accepted writtenRuling w Outside e o (response wroteOutsideKind []) out refl h
 
-module _ (t g o : List ℕ) (r : ℕ) (out : List ℕ) where
-  pub serves-group-edit : (key place : ℕ) (rule : Option Update → Ruling (Edit Update)) → workOf (requestOf t) ≡ editGroup key place rule →
+-- What is answered is what the rule tells.
+answered-told : (g o : List ℕ) (R : Ruling Groups) (r : ℕ) (after out : List ℕ) → Answered g o R r after out → Put (told (lackIn g) R) o r out
+answered-told g o R r after out x = record { result = x .result ∙ group-number g R; words = x .answer ∙ sym (group-out g o R) }
+
+module _ (t g o : List ℕ) (r : ℕ) (out : List ℕ) (v : groupValid g ≡ true) where
+  pub serves-group-edit : (key place : ℕ) (rule : Option Update → Ruling (Edit Update)) → Asks t (editGroup key place rule) →
       ((own : Option Update) → IsDone (rule own)) → (n : ℕ) (after : List ℕ) → Ruled g (editing (groupsIn g) key place rule) n after →
       Put (doneRuling n) o r out → ServesGroup t g o r after out
   unfolding editing
-  serves-group-edit key place rule e h n after p q =
-      edits-group t o r out g key place rule after e
+  serves-group-edit key place rule a h n after p q =
+      edits-group t o r out g key place rule after a
       (done-told (lackIn g) (editing (groupsIn g) key place rule) n o out r done (p .result ∙ group-number g (editing (groupsIn g) key place rule)) q)
-      (p .words)
+      (group-left g v t key place rule a after (p .words))
     where
       done : IsDone (editing (groupsIn g) key place rule)
       done = ruled-done _ (rule (find key place (groupsIn g .updates))) (h (find key place (groupsIn g .updates)))
 
-  pub serves-group-commit : (key place : ℕ) (rule : Option Update → Committed → Ruling Commits) → workOf (requestOf t) ≡ commitGroup key place rule →
+  pub serves-group-commit : (key place : ℕ) (rule : Option Update → Committed → Ruling Commits) → Asks t (commitGroup key place rule) →
       ((own : Option Update) (group : Committed) → IsDone (rule own group)) → (n : ℕ) (after : List ℕ) →
       Ruled g (committing (groupsIn g) key place rule) n after → Put (doneRuling n) o r out → ServesGroup t g o r after out
   unfolding committing
-  serves-group-commit key place rule e h n after p q =
-      commits-group t o r out g key place rule after e
-      (record { result = put .result ∙ sym number; words = p .words; answer = put .words ∙ group-out g o R })
+  serves-group-commit key place rule a h n after p q =
+      commits-group t o r out g key place rule after a
+      (done-told (lackIn g) (committing (groupsIn g) key place rule) n o out r done (p .result ∙ group-number g (committing (groupsIn g) key place rule)) q)
+      (committed-left g v t key place rule a after (p .words))
     where
-      R : Ruling Groups
-      R = committing (groupsIn g) key place rule
+      done : IsDone (committing (groupsIn g) key place rule)
+      done =
+          ruled-done (withGroupCommits (groupsIn g) key place) (rule (find key place (groupsIn g .updates)) (groupsIn g .committed))
+          (h (find key place (groupsIn g .updates)) (groupsIn g .committed))
 
-      number : resultOf g R ≡ resultBy (told (lackIn g) R)
-      number = group-number g R
-
-      put : Put (told (lackIn g) R) o r out
-      put =
-          done-told (lackIn g) R n o out r
-          (ruled-done (withGroupCommits (groupsIn g) key place) (rule (find key place (groupsIn g .updates)) (groupsIn g .committed))
-          (h (find key place (groupsIn g .updates)) (groupsIn g .committed)))
-          (p .result ∙ number) q
-
-  pub serves-group-write : (key place incarnation : ℕ) (ms : List Member) → workOf (requestOf t) ≡ editGroup key place (writeGroup incarnation ms) →
+  pub serves-group-write : (key place incarnation : ℕ) (ms : List Member) → Asks t (editGroup key place (writeGroup incarnation ms)) →
       (x : Written) (after : List ℕ) → Writes g key place incarnation ms x after → Put (writtenRuling x) o r out → ServesGroup t g o r after out
-  serves-group-write key place incarnation ms e x after p q =
-      edits-group t o r out g key place (writeGroup incarnation ms) after e
+  serves-group-write key place incarnation ms a x after p q =
+      edits-group t o r out g key place (writeGroup incarnation ms) after a
       (rw (ap writtenRuling (p .answer) ∙ written-told g key place incarnation ms) at q)
-      (p .words)
+      (group-left g v t key place (writeGroup incarnation ms) a after (p .words))
 
-  module _ (v : groupValid g ≡ true) (key index : ℕ) where
+  module _ (key index : ℕ) where
     abbrev seen : List (Row Update)
     seen = downFrom key index (groupsIn g .updates)
 
     seen-fine : every fineUpdate seen ≡ true
     seen-fine = every-downFrom fineUpdate key index (groupsIn g .updates) (every-valid g v)
 
-    pub serves-group-fetch : (tag : ℕ) → workOf (requestOf t) ≡ readGroup key index (fetchTaggedData tag) → (x : MVGroupOutput) →
+    pub serves-group-fetch : (tag : ℕ) → Asks t (readGroup key index (fetchTaggedData tag)) → (x : MVGroupOutput) →
         x ≡ latestOutput (hasBase seen) (latest tag seen) → Put (groupOutputRuling x) o r out → ServesGroup t g o r g out
     unfolding fetchTaggedData
-    serves-group-fetch tag e x h q = reads-group t o r out g v key index (fetchTaggedData tag) e (rw (ap groupOutputRuling h ∙ kept) at q)
+    serves-group-fetch tag a x h q = reads-group t o r out g v key index (fetchTaggedData tag) a (rw (ap groupOutputRuling h ∙ kept) at q)
       where
         kept : groupOutputRuling (latestOutput (hasBase seen) (latest tag seen)) ≡ fetchTaggedData tag seen
         kept = latest-kept (hasBase seen) (latest tag seen) (latest-fine tag seen seen-fine)
 
-    pub serves-group-size : workOf (requestOf t) ≡ readGroup key index getGroupSize → (x : MVGroupOutput) →
+    pub serves-group-size : Asks t (readGroup key index getGroupSize) → (x : MVGroupOutput) →
         x ≡ cond (hasBase seen) (sizeOutput (sizeOver allTags seen)) Uninitialized → Put (groupOutputRuling x) o r out → ServesGroup t g o r g out
     unfolding getGroupSize
-    serves-group-size e x h q = reads-group t o r out g v key index getGroupSize e (rw (ap groupOutputRuling h ∙ kept) at q)
+    serves-group-size a x h q = reads-group t o r out g v key index getGroupSize a (rw (ap groupOutputRuling h ∙ kept) at q)
       where
         kept : groupOutputRuling (cond (hasBase seen) (sizeOutput (sizeOver allTags seen)) Uninitialized) ≡ getGroupSize seen
         kept = size-kept (hasBase seen) (sizeOver allTags seen)
 
-  pub serves-finalize : (key place : ℕ) → workOf (requestOf t) ≡ commitGroup key place (finalizeGroup key) → (after : List ℕ) →
+  pub serves-finalize : (key place : ℕ) → Asks t (commitGroup key place (finalizeGroup key)) → (after : List ℕ) →
       Answered g o (committing (groupsIn g) key place (finalizeGroup key)) r after out → ServesGroup t g o r after out
-  serves-finalize key place e after a = commits-group t o r out g key place (finalizeGroup key) after e a
+  serves-finalize key place a after p =
+      commits-group t o r out g key place (finalizeGroup key) after a
+      (answered-told g o (committing (groupsIn g) key place (finalizeGroup key)) r after out p)
+      (committed-left g v t key place (finalizeGroup key) a after (p .words))
 
-pub serves-last-committed : (t g o out : List ℕ) → groupValid g ≡ true → (key : ℕ) → workOf (requestOf t) ≡ commitGroup key 0 (getLastCommittedGroup key) →
+-- A valid store that stays holds what it held.
+stays-left : (g : List ℕ) → groupValid g ≡ true → (answer : List ℕ) → LeftBy g (accept answer (groupsIn g)) g
+unfolding LeftBy LeftIf fitsIn lackIn
+stays-left g v answer =
+    rw (lack-none (heldBy (groupsIn g)) (unitsIn (length g)) (few-valid g v)) (record { valid = v; groups = refl; size = refl; past = refl })
+
+stays-put : (g : List ℕ) → groupValid g ≡ true → (answer o out : List ℕ) → out ≡ answerIn answer o → Put (told (lackIn g) (accept answer (groupsIn g))) o 0 out
+unfolding told toldOf resultBy outBy lackIn
+stays-put g v answer o out h = rw (lack-none (heldBy (groupsIn g)) (unitsIn (length g)) (few-valid g v)) (record { result = refl; words = h })
+
+pub serves-last-committed : (t g o out : List ℕ) → groupValid g ≡ true → (key : ℕ) → Asks t (commitGroup key 0 (getLastCommittedGroup key)) →
     out ≡ answerIn (committedAnswer key (groupsIn g .committed)) o → ServesGroup t g o 0 g out
 unfolding committing getLastCommittedGroup ruled withGroupCommits commits edited
-serves-last-committed t g o out v key e h =
-    commits-group t o 0 out g key 0 (getLastCommittedGroup key) g e
-    (answered-done g o (committing (groupsIn g) key 0 (getLastCommittedGroup key)) (committedAnswer key (groupsIn g .committed)) (groupsIn g) refl
-    (few-valid g v) g (sym (holding-groups g v)) out h)
+serves-last-committed t g o out v key a h =
+    commits-group t o 0 out g key 0 (getLastCommittedGroup key) g a
+    (stays-put g v (committedAnswer key (groupsIn g .committed)) o out h)
+    (stays-left g v (committedAnswer key (groupsIn g .committed)))

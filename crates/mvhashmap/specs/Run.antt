@@ -1,14 +1,15 @@
--- Lists of calls on words: "Each meets the stores as the one before it left them, accepted or refused, and nothing else writes them in between."
-use mathlib.Core.Bool.{Bool, cond}
-use mathlib.Core.List.{List, [], _∷_}
+-- Lists of calls: "Each meets the stores as the one before it left them, accepted or refused, and nothing else writes them in between."
+use mathlib.Core.Bool.{Bool, true, cond}
+use mathlib.Core.List.{List, [], _∷_, map}
 use Prim.Native.Nat.{ℕ, suc}
 use lib.Dec.{leb, eqb}
 use lib.ListN.{length, getD, take, replicate}
 use Rattle.lists.specs.Lists.{every}
 use Rattle.types.specs.Response.{countIn, answerWidth}
-use Rattle.model.specs.Model.{Model, Outcome, refused, answered, Turn, unlessRefused, step, leftBy}
+use Rattle.model.specs.Data.{Ruling}
+use Rattle.model.specs.Model.{Model, Fixed, Outcome, refused, answered, Turn, unlessRefused, step, leftBy}
 use Rattle.model.specs.Fine.{isWord}
-use Rattle.mvhashmap.specs.Call.{Stores, stores, Lent, Called, fixedOf, holding, sliceRefusal, calledBy, callOf}
+use Rattle.mvhashmap.specs.Call.{Stores, stores, Lent, Called, Known, known, View, viewOf, CalledView, calledView, sliceRefusal, calledBy, callOf, Calls}
 
 -- A request and the answer slice that is lent with it.
 pub record Call : Type 0 where
@@ -19,26 +20,49 @@ pub record Call : Type 0 where
 unfoldable pub cleared : ℕ → ℕ → Stores
 cleared n k = stores (replicate n 0) (replicate k 0)
 
+-- ---- on words
+
 unfoldable pub lentTo : Call → Stores → Lent
 lentTo c s = record { stores = s; out = c .out }
 
-unfoldable pub callOn : Stores → Call → Called
-callOn s c = callOf (c .request) (lentTo c s)
+-- Calls and what each of them left: each keeps to `Calls`, and the next one meets the stores that it left.
+unfoldable pub Chain : Stores → List Call → List Called → Type 0
+Chain s [] [] = Unit
+Chain s [] (d ∷ ds) = ⊥
+Chain s (c ∷ cs) [] = ⊥
+Chain s (c ∷ cs) (d ∷ ds) = Calls (c .request) (lentTo c s) (d .result) (d .lent) × Chain (d .lent .stores) cs ds
+
+-- The stores that they leave.
+unfoldable pub storesAfter : Stores → List Called → Stores
+storesAfter s [] = s
+storesAfter s (d ∷ ds) = storesAfter (d .lent .stores) ds
+
+-- What a caller can know of each call: its result and answer slice, and of the stores after it their units, whether they are sound and what they
+-- hold.
+unfoldable pub viewed : Called → CalledView
+viewed d = calledView (d .result) (viewOf (d .lent))
+
+unfoldable pub views : List Called → List CalledView
+views ds = map viewed ds
+
+-- ---- on what is known
+
+unfoldable pub viewTo : Call → Known → View
+viewTo c s = record { stores = s; out = c .out }
+
+unfoldable pub callOn : Known → Call → CalledView
+callOn s c = callOf (c .request) (viewTo c s)
 
 -- The calls of a list, one after the other.
-unfoldable pub calls : Stores → List Call → List Called
+unfoldable pub calls : Known → List Call → List CalledView
 calls s [] = []
-calls s (c ∷ cs) = callOn s c ∷ calls (callOn s c .lent .stores) cs
+calls s (c ∷ cs) = callOn s c ∷ calls (callOn s c .view .stores) cs
 
--- The stores that they leave, and the requests among them that were accepted.
-unfoldable pub storesAfter : Stores → List Call → Stores
-storesAfter s [] = s
-storesAfter s (c ∷ cs) = storesAfter (callOn s c .lent .stores) cs
-
-unfoldable pub acceptedOn : Stores → List Call → List (List ℕ)
-acceptedOn s [] = []
-acceptedOn s (c ∷ cs) =
-    cond (eqb (callOn s c .result) 0) (c .request ∷ acceptedOn (callOn s c .lent .stores) cs) (acceptedOn (callOn s c .lent .stores) cs)
+-- The requests that were accepted.
+unfoldable pub acceptedIn : List Call → List CalledView → List (List ℕ)
+acceptedIn [] xs = []
+acceptedIn (c ∷ cs) [] = []
+acceptedIn (c ∷ cs) (x ∷ xs) = cond (eqb (x .result) 0) (c .request ∷ acceptedIn cs xs) (acceptedIn cs xs)
 
 -- What a caller sees of a call: the result, and the answer's words where that is 0. "Answer head, same shape": bits 0 to 27 count the words after it.
 unfoldable pub answerWords : List ℕ → List ℕ
@@ -47,12 +71,13 @@ answerWords out = take (suc (countIn (getD out 0 0))) out
 unfoldable pub shown : ℕ → List ℕ → Outcome
 shown result out = cond (eqb result 0) (answered (answerWords out)) (refused result)
 
-unfoldable pub seenOf : Called → Outcome
-seenOf c = shown (c .result) (c .lent .out)
+unfoldable pub seenOf : CalledView → Outcome
+seenOf x = shown (x .result) (x .view .out)
 
-unfoldable pub turnsOn : Stores → List Call → List Turn
-turnsOn s [] = []
-turnsOn s (c ∷ cs) = record { request = c .request; outcome = seenOf (callOn s c) } ∷ turnsOn (callOn s c .lent .stores) cs
+unfoldable pub turnsIn : List Call → List CalledView → List Turn
+turnsIn [] xs = []
+turnsIn (c ∷ cs) [] = []
+turnsIn (c ∷ cs) (x ∷ xs) = record { request = c .request; outcome = seenOf x } ∷ turnsIn cs xs
 
 -- A word is 32 bits, in a request too.
 unfoldable pub areWords : List Call → Bool
@@ -65,13 +90,17 @@ isLong c = leb answerWidth (length (c .out))
 unfoldable pub longEnough : List Call → Bool
 longEnough cs = every isLong cs
 
--- The same calls by the definition: stores like `s` that hold what the requests accepted before left.
-unfoldable pub callBy : Stores → Model → Call → Called
-callBy s m c = calledBy (lentTo c (holding s m)) (unlessRefused (sliceRefusal (c .out)) (step (fixedOf s) m (c .request)))
+-- ---- the same calls by the definition: sound stores of these units that hold what the requests accepted before left
 
-unfoldable pub modelLeft : Stores → Model → Call → Model
-modelLeft s m c = leftBy m (unlessRefused (sliceRefusal (c .out)) (step (fixedOf s) m (c .request)))
+unfoldable pub rulingOn : Fixed → Model → Call → Ruling Model
+rulingOn f m c = unlessRefused (sliceRefusal (c .out)) (step f m (c .request))
 
-unfoldable pub callsBy : Stores → Model → List Call → List Called
-callsBy s m [] = []
-callsBy s m (c ∷ cs) = callBy s m c ∷ callsBy s (modelLeft s m c) cs
+unfoldable pub callBy : Fixed → Model → Call → CalledView
+callBy f m c = calledBy (viewTo c (known f true m)) (rulingOn f m c)
+
+unfoldable pub modelLeft : Fixed → Model → Call → Model
+modelLeft f m c = leftBy m (rulingOn f m c)
+
+unfoldable pub callsBy : Fixed → Model → List Call → List CalledView
+callsBy f m [] = []
+callsBy f m (c ∷ cs) = callBy f m c ∷ callsBy f (modelLeft f m c) cs

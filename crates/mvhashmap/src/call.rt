@@ -3,29 +3,52 @@ use crate::data::data_call;
 use crate::group::group_call;
 use group_slots::scan as group_scan;
 use request::Checked;
-use request::asked::Fields;
+use request::data::data_refusal;
 use types::refusal;
 use types::response::ANSWER_WIDTH;
+use types::response::kind_in;
 use versioned_data::scan as data_scan;
 ghost use mathlib.Core.Path.{_≡_};
-ghost use mathlib.Core.Bool.{true};
+ghost use mathlib.Core.Bool.{true, false};
+ghost use Prim.Native.Nat.{_≤_, _<_};
+ghost use lib.ListN.{length};
+ghost use Rattle.types.specs.Response.{answerWidth};
+ghost use Rattle.request.specs.Fields.{kindAt};
+ghost use Rattle.group_slots.specs.Layout.{groupValid};
 ghost use Rattle.mvhashmap.specs.Call.{stores, lent, sound, Calls};
-ghost use Rattle.mvhashmap.specs.Served.{Asked};
+ghost use Rattle.mvhashmap.specs.Served.{isData, CallsGroup};
 
-// A request that passed the checks, over sound stores.
-fn accepted(f: Fields, t: &[u32], data: &mut [u32], group: &mut [u32], out: &mut [u32]) -> u32
-    requires sound { ⌜ sound (stores (now «data») (now group)) ≡ true ⌝ }
-    requires asked { ⌜ Asked (now t) f (now out) ⌝ }
-    ensures called { λ r.
-        ⌜ Calls (now (t .entry)) (lent (now («data» .entry)) (now (group .entry)) (now (out .entry))) r (lent (now («data» .exit)) (now (group .exit)) (now (out .exit))) ⌝ }
+fn kind_of(t: &[u32]) -> usize
+    requires some { ⌜ 0 < length (now t) ⌝ }
+    ensures kind { λ r. ⌜ r ≡ kindAt (now (t .entry)) ⌝ }
 {
-    if f.kind < 1 {
-        return group_call(f, t, group, out);
+    kind_in(t[0])
+}
+
+fn is_data(kind: usize) -> bool
+    ensures data { λ r. ⌜ r ≡ isData kind ⌝ }
+{
+    if kind < 1 {
+        return false;
     }
-    if f.kind < 8 {
-        return data_call(f, t, data, out);
+    kind <= 7
+}
+
+// A request for the group store.
+fn group_request(t: &[u32], group: &mut [u32], out: &mut [u32]) -> u32
+    requires valid { ⌜ groupValid (now group) ≡ true ⌝ }
+    requires room { ⌜ answerWidth ≤ length (now out) ⌝ }
+    requires kind { ⌜ isData (kindAt (now t)) ≡ false ⌝ }
+    ensures called { λ r. ⌜ CallsGroup (now (t .entry)) (now (group .entry)) (now (out .entry)) r (now (group .exit)) (now (out .exit)) ⌝ }
+{
+    match request::check(t) {
+        Checked::Refused(n) => {
+            return n;
+        }
+        Checked::Accepted(f) => {
+            return group_call(f, t, group, out);
+        }
     }
-    group_call(f, t, group, out)
 }
 
 // A call by a caller who knows that the stores are sound.
@@ -37,14 +60,18 @@ pub fn inner_call(t: &[u32], data: &mut [u32], group: &mut [u32], out: &mut [u32
     if out.len() < ANSWER_WIDTH {
         return refusal::ANSWER_TOO_SHORT;
     }
-    match request::check(t) {
-        Checked::Refused(n) => {
-            return n;
-        }
-        Checked::Accepted(f) => {
-            return accepted(f, t, data, group, out);
-        }
+    if t.len() == 0 {
+        return refusal::WRONG_COUNT;
     }
+    let kind = kind_of(t);
+    if !is_data(kind) {
+        return group_request(&t[0..], &mut group[0..], &mut out[0..]);
+    }
+    let refused = data_refusal(t, kind);
+    if refused != 0 {
+        return refused;
+    }
+    data_call(kind, t, data, out)
 }
 
 // A call over any words.
@@ -59,14 +86,15 @@ pub fn call(t: &[u32], data: &mut [u32], group: &mut [u32], out: &mut [u32]) -> 
         Checked::Refused(n) => {
             return n;
         }
-        Checked::Accepted(f) => {
+        Checked::Accepted(_) => {
             if !data_scan::is_valid(data) {
                 return refusal::DAMAGED_STORE;
             }
             if !group_scan::is_valid(group) {
                 return refusal::DAMAGED_STORE;
             }
-            return accepted(f, t, data, group, out);
+            // The request is checked again: the scans take a hundred times as long.
+            return inner_call(t, data, group, out);
         }
     }
 }

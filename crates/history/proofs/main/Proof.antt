@@ -3,7 +3,7 @@ use native.Mathlib.Omega.{arith}
 use lib.ListN.{replicate, length-replicate}
 use Rattle.versioned_data.proofs.EntriesCleared as Data
 use Rattle.group_slots.proofs.GroupCleared as Group
-use Rattle.mvhashmap.proofs.CallParts.{sound-both}
+use Rattle.mvhashmap.proofs.StoresSound.{sound-both}
 use borrow.Author.Needs.{needs}
 use Rattle.history.proofs.main.Statement.{statement}
 use Rattle.history.proofs.main.Tie as tie

@@ -6,7 +6,7 @@ use native.Mathlib.Omega.{arith}
 use lib.ListN.{length}
 use borrow.Author.Tests.{not-true, not-false}
 use Rattle.lists.proofs.Bools.{true-not-false}
-use Rattle.mvhashmap.specs.Call.{stores, lent, sound}
+use Rattle.mvhashmap.specs.Call.{stores, lent, sound, viewOf}
 use Rattle.history.specs.Turn.{Turned}
 use Rattle.history.specs.State.{Within, start, budget}
 use Rattle.history.proofs.TurnSteps.{turned-none, turned-then}
@@ -27,7 +27,7 @@ Inv-loop bytes₀ words₀ data₀ group₀ answer₀ out₀ s₀ bytes words da
     × (length group ≡ length group₀)
     × (length answer ≡ length answer₀)
     × (length out ≡ length out₀)
-    × Turned start bytes₀ (lent data₀ group₀ answer₀) out₀ s bytes (lent data-words group answer) out
+    × Turned start bytes₀ (viewOf (lent data₀ group₀ answer₀)) out₀ s bytes (viewOf (lent data-words group answer)) out
 
 abbrev μ-loop : tie.MeasureT-loop
 μ-loop bytes₀ words₀ data₀ group₀ answer₀ out₀ s₀ bytes words data-words group answer out s = budget s
@@ -35,7 +35,7 @@ abbrev μ-loop : tie.MeasureT-loop
 loop-holds : tie.Need-loop-holds Inv-loop μ-loop
 loop-holds c =
     let at-start = c .before .before .before .before .before .before in
-    let lent-first = lent (at-start .args .«data» .now) (at-start .args .group .now) (at-start .args .answer .now) in (
+    let seen-first = viewOf (lent (at-start .args .«data» .now) (at-start .args .group .now) (at-start .args .answer .now)) in (
       record { from = omega arith; to = omega arith },
       omega arith,
       at-start .pre .1 .1 .0,
@@ -45,7 +45,7 @@ loop-holds c =
       refl,
       refl,
       refl,
-      turned-none start (at-start .args .bytes .now) lent-first (at-start .args .out .now),
+      turned-none start (at-start .args .bytes .now) seen-first (at-start .args .out .now),
     )
 
 turn-requires : tie.Need-turn-requires Inv-loop μ-loop
@@ -80,9 +80,9 @@ loop-less c =
 loop-again : tie.Need-loop-again Inv-loop μ-loop
 loop-again c =
     let at-start = c .before .before .before .before .before .before .before .before .before .before .before .before .before .before .before .before .before .before .before .before .before .before .before .before .before .before .before .before .before .before in
-    let lent-first = lent (at-start .args .«data» .now) (at-start .args .group .now) (at-start .args .answer .now) in
+    let seen-first = viewOf (lent (at-start .args .«data» .now) (at-start .args .group .now) (at-start .args .answer .now)) in
     let at-loop = c .before .before .before .before .before .before .before .before .before .before .before .before .before .before .before .before .before .before .before .before .before .before .before in
-    let lent-then = lent (at-loop .loop .«data») (at-loop .loop .group) (at-loop .loop .answer) in
+    let seen-then = viewOf (lent (at-loop .loop .«data») (at-loop .loop .group) (at-loop .loop .answer)) in
     let at-turn = c .before .before .before .before .before .before .before .before .before .before .before .before in (
       at-turn .turn .ensures .0,
       at-turn .turn .ensures .1 .0,
@@ -93,8 +93,8 @@ loop-again c =
       omega arith,
       omega arith,
       omega arith,
-      turned-then start (at-start .args .bytes .now) lent-first (at-start .args .out .now) (at-loop .loop .s) (at-loop .loop .bytes)
-          lent-then (at-loop .loop .out) _ _ _ _ (at-loop .loop .inv .9) (at-turn .turn .ensures .1 .1 .1 .1),
+      turned-then start (at-start .args .bytes .now) seen-first (at-start .args .out .now) (at-loop .loop .s) (at-loop .loop .bytes)
+          seen-then (at-loop .loop .out) _ _ _ _ (at-loop .loop .inv .9) (at-turn .turn .ensures .1 .1 .1 .1),
     )
 
 same-length : tie.Need-same-length Inv-loop μ-loop
@@ -118,10 +118,10 @@ same-length-6 c = search needs
 returns : tie.Need-returns Inv-loop μ-loop
 returns c =
     let at-start = c .before .before .before .before .before .before .before .before .before .before in
-    let lent-first = lent (at-start .args .«data» .now) (at-start .args .group .now) (at-start .args .answer .now) in
+    let seen-first = viewOf (lent (at-start .args .«data» .now) (at-start .args .group .now) (at-start .args .answer .now)) in
     let at-loop = c .before .before .before in
-    let lent-then = lent (at-loop .loop .«data») (at-loop .loop .group) (at-loop .loop .answer) in
-    ran-failed (at-start .args .bytes .now) lent-first (at-start .args .out .now) (at-loop .loop .s) (at-loop .loop .bytes) lent-then (at-loop .loop .out)
+    let seen-then = viewOf (lent (at-loop .loop .«data») (at-loop .loop .group) (at-loop .loop .answer)) in
+    ran-failed (at-start .args .bytes .now) seen-first (at-start .args .out .now) (at-loop .loop .s) (at-loop .loop .bytes) seen-then (at-loop .loop .out)
     (at-loop .loop .inv .9) (c .if3 .taken)
 
 written-requires : tie.Need-written-requires Inv-loop μ-loop
@@ -148,14 +148,14 @@ same-length-12 c = search needs
 returns-2 : tie.Need-returns-2 Inv-loop μ-loop
 returns-2 c =
     let at-start = c .before .before .before .before .before .before .before .before .before .before .before .before in
-    let lent-first = lent (at-start .args .«data» .now) (at-start .args .group .now) (at-start .args .answer .now) in
+    let seen-first = viewOf (lent (at-start .args .«data» .now) (at-start .args .group .now) (at-start .args .answer .now)) in
     let at-loop = c .before .before .before .before .before in
-    let lent-then = lent (at-loop .loop .«data») (at-loop .loop .group) (at-loop .loop .answer) in
+    let seen-then = viewOf (lent (at-loop .loop .«data») (at-loop .loop .group) (at-loop .loop .answer)) in
     let at-end = c .before .before in
     let stopped : at-loop .loop .s .stop ≡ true =
     ⊎-elim (λ w. true-not-false (at-loop .loop .s .failed) (not-false _ (w .2 .left)) (at-end .if3 .left)) (λ w. not-false _ (w .left))
     (at-end .before .if1 .came) in
-    ran-stopped (at-start .args .bytes .now) lent-first (at-start .args .out .now) (at-loop .loop .s) (at-loop .loop .bytes) lent-then (at-loop .loop .out)
+    ran-stopped (at-start .args .bytes .now) seen-first (at-start .args .out .now) (at-loop .loop .s) (at-loop .loop .bytes) seen-then (at-loop .loop .out)
     (at-loop .loop .inv .9) _ (at-loop .loop .inv .1) stopped (c .written .ensures)
 
 pub run-spec : {M : Type 1} → statement M

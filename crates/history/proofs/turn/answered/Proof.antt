@@ -1,7 +1,7 @@
 use Prim.Native.Nat.{_-_}
 use lib.ListN.{take, drop, length-take}
 use Rattle.history.proofs.InputRequests.{request-fits}
-use Rattle.mvhashmap.specs.Call.{lent}
+use Rattle.mvhashmap.specs.Call.{lent, viewOf}
 use Rattle.history.proofs.TurnCalls.{answered-nothing, served, shown-fits, answered-request}
 use native.Mathlib.Omega.{arith}
 use borrow.Author.Needs.{needs}
@@ -17,7 +17,7 @@ returns c =
         (
           at-start .pre .1 .1 .0,
           answered-nothing (at-start .args .s) (at-start .args .bytes .now)
-              (lent (at-start .args .«data» .now) (at-start .args .group .now) (at-start .args .answer .now)) (at-start .args .out .now) (at-start .pre .0)
+              (viewOf (lent (at-start .args .«data» .now) (at-start .args .group .now) (at-start .args .answer .now))) (at-start .args .out .now) (at-start .pre .0)
               (at-start .pre .1 .1 .1 .0) (c .if1 .taken),
         ),
       ),

@@ -1,7 +1,7 @@
 use mathlib.Core.Path.{sym, _∙_}
 use native.Mathlib.Omega.{arith}
 use borrow.Author.Tests.{not-true, not-false}
-use Rattle.mvhashmap.specs.Call.{lent}
+use Rattle.mvhashmap.specs.Call.{lent, viewOf}
 use Rattle.history.proofs.StateLaws.{room-to-read}
 use Rattle.history.proofs.TurnPromises.{goes-written, goes-gave-up, goes-read, goes-answered}
 use borrow.Author.Needs.{needs}
@@ -20,8 +20,8 @@ same-length c = search needs
 returns : tie.Need-returns
 returns c =
     let at-start = c .before .before .before .before .before .before .before .before .before in
-    let lent-to-it = lent (at-start .args .«data» .now) (at-start .args .group .now) (at-start .args .answer .now) in
-    goes-written (at-start .args .s) (at-start .args .bytes .now) lent-to-it (at-start .args .out .now)
+    let seen-first = viewOf (lent (at-start .args .«data» .now) (at-start .args .group .now) (at-start .args .answer .now)) in
+    goes-written (at-start .args .s) (at-start .args .bytes .now) seen-first (at-start .args .out .now)
     (at-start .pre .0) (at-start .pre .1 .1 .1 .1 .1 .0) (at-start .pre .1 .1 .1 .0) (at-start .pre .1 .1 .1 .1 .1 .1 .1 .1) (omega arith) _ (c .written .ensures)
 
 wants-more-requires : tie.Need-wants-more-requires
@@ -59,12 +59,12 @@ same-length-7 c = search needs
 returns-2 : tie.Need-returns-2
 returns-2 c =
     let at-start = c .before .before .before .before .before .before .before .before .before .before .before .before .before .before .before .before .before .before .before .before .before .before .before .before .before .before .before in
-    let lent-to-it = lent (at-start .args .«data» .now) (at-start .args .group .now) (at-start .args .answer .now) in
+    let seen-first = viewOf (lent (at-start .args .«data» .now) (at-start .args .group .now) (at-start .args .answer .now)) in
     let at-answered = c .before .before .before .before .before .before .before .before .before .before in
     let at-if2 = c .before .before .before .before .before .before .before .before .before .before .before .before .before .before .before .before .before in
     let at-wants = c .before .before .before .before .before .before .before .before .before .before .before .before .before .before .before .before .before .before in
     let settles = sym (at-wants .wants-more .ensures) ∙ not-true _ (at-if2 .if2 .taken) in
-    goes-answered (at-start .args .s) (at-start .args .bytes .now) lent-to-it (at-start .args .out .now)
+    goes-answered (at-start .args .s) (at-start .args .bytes .now) seen-first (at-start .args .out .now)
     (at-start .pre .0) (at-start .pre .1 .1 .1 .1 .0) settles (at-start .pre .1 .1 .1 .1 .1 .1 .1 .0) _ _ _ (at-answered .answered .ensures)
 
 written-requires-2 : tie.Need-written-requires-2
@@ -79,8 +79,8 @@ same-length-9 c = search needs
 returns-3 : tie.Need-returns-3
 returns-3 c =
     let at-start = c .before .before .before .before .before .before .before .before .before .before .before .before .before in
-    let lent-to-it = lent (at-start .args .«data» .now) (at-start .args .group .now) (at-start .args .answer .now) in
-    goes-written (at-start .args .s) (at-start .args .bytes .now) lent-to-it (at-start .args .out .now)
+    let seen-first = viewOf (lent (at-start .args .«data» .now) (at-start .args .group .now) (at-start .args .answer .now)) in
+    goes-written (at-start .args .s) (at-start .args .bytes .now) seen-first (at-start .args .out .now)
     (at-start .pre .0) (at-start .pre .1 .1 .1 .1 .1 .0) (at-start .pre .1 .1 .1 .0) (at-start .pre .1 .1 .1 .1 .1 .1 .1 .1) (omega arith) _ (c .written2 .ensures)
 
 sub-if4 : tie.Need-sub-if4
@@ -95,8 +95,8 @@ same-length-10 c = search needs
 returns-4 : tie.Need-returns-4
 returns-4 c =
     let at-start = c .before .before .before .before .before .before .before .before .before .before .before .before .before in
-    let lent-to-it = lent (at-start .args .«data» .now) (at-start .args .group .now) (at-start .args .answer .now) in
-    goes-gave-up (at-start .args .s) (at-start .args .bytes .now) lent-to-it (at-start .args .out .now)
+    let seen-first = viewOf (lent (at-start .args .«data» .now) (at-start .args .group .now) (at-start .args .answer .now)) in
+    goes-gave-up (at-start .args .s) (at-start .args .bytes .now) seen-first (at-start .args .out .now)
     (at-start .pre .0) (at-start .pre .1 .1 .1 .1 .1 .0) (at-start .pre .1 .1 .1 .0) (at-start .pre .1 .1 .1 .1 .1 .1 .1 .1) _ (c .gave-up .ensures)
 
 read-on-requires : tie.Need-read-on-requires
@@ -123,13 +123,13 @@ same-length-11 c = search needs
 returns-5 : tie.Need-returns-5
 returns-5 c =
     let at-start = c .before .before .before .before .before .before .before .before .before .before .before .before .before .before .before .before in
-    let lent-to-it = lent (at-start .args .«data» .now) (at-start .args .group .now) (at-start .args .answer .now) in
+    let seen-first = viewOf (lent (at-start .args .«data» .now) (at-start .args .group .now) (at-start .args .answer .now)) in
     let at-read = c .before .before in
     let at-if4 = c .before .before .before .before in
     let at-if2 = c .before .before .before .before .before .before in
     let at-wants = c .before .before .before .before .before .before .before in
     let wants = sym (at-wants .wants-more .ensures) ∙ not-false _ (at-if2 .if2 .left) in
-    goes-read (at-start .args .s) (at-start .args .bytes .now) lent-to-it (at-start .args .out .now)
+    goes-read (at-start .args .s) (at-start .args .bytes .now) seen-first (at-start .args .out .now)
     (at-start .pre .1 .1 .1 .1 .1 .0) (at-start .pre .1 .1 .1 .0) wants _ _ (at-read .read-on .ensures) (omega (arith, at-if4 .if4 .left))
 
 pub turn-spec : {M : Type 1} → statement M

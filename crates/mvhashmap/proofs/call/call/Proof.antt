@@ -1,6 +1,7 @@
 -- `mvhashmap::call::call` meets its contract.
 -- Assumes nothing.
-use Rattle.mvhashmap.proofs.CallParts.{calls-short, calls-refused, asked-accepted, valid-told, sound-both, calls-data-invalid, calls-group-invalid}
+use Rattle.mvhashmap.proofs.StoresSound.{sound-both}
+use Rattle.mvhashmap.proofs.CallParts.{calls-short, calls-refused, passed-told, valid-told, calls-data-invalid, calls-group-invalid}
 use borrow.Author.Needs.{needs}
 use Rattle.mvhashmap.proofs.call.call.Statement.{statement}
 use Rattle.mvhashmap.proofs.call.call.Tie as tie
@@ -16,12 +17,10 @@ enum-known-n c = search needs
 
 returns-2 : tie.Need-returns-2
 returns-2 c =
-    let at-length = c .before .before .before .before in
-    let at-check = c .before .before .before in
-    calls-refused _ _ (at-length .if1 .left) _ (at-check .check .ensures) _ (c .before .n .given .1)
+    calls-refused _ _ (c .before .before .before .before .if1 .left) _ (c .before .before .before .check .ensures) _ (c .before .n .given .1)
 
-enum-known-f : tie.Need-enum-known-f
-enum-known-f c = search needs
+enum-told : tie.Need-enum-told
+enum-told c = search needs
 
 is-valid-requires : tie.Need-is-valid-requires
 is-valid-requires c κs = search needs
@@ -31,10 +30,9 @@ same-length c = search needs
 
 returns-3 : tie.Need-returns-3
 returns-3 c =
-    let at-length = c .before .before .before .before .before .before .before in
-    let at-check = c .before .before .before .before .before .before in
-    let at-fields = c .before .before .before .before in
-    calls-data-invalid _ _ _ (asked-accepted _ _ (at-length .if1 .left) _ (at-check .check .ensures) _ (at-fields .f .given .1)) _
+    let at-length = c .before .before .before .before .before .before in
+    calls-data-invalid _ _ (at-length .if1 .left)
+    (passed-told _ _ (c .before .before .before .before .before .check .ensures) _ (c .before .before .before .enum-told .given .1)) _
     (c .before .is-valid .ensures) (c .if2 .taken)
 
 is-valid-requires-2 : tie.Need-is-valid-requires-2
@@ -48,26 +46,19 @@ same-length-3 c = search needs
 
 returns-4 : tie.Need-returns-4
 returns-4 c =
-    let at-length = c .before .before .before .before .before .before .before .before .before .before in
-    let at-check = c .before .before .before .before .before .before .before .before .before in
-    let at-fields = c .before .before .before .before .before .before .before in
-    let at-data-scan = c .before .before .before .before in
-    calls-group-invalid _ _ _ (asked-accepted _ _ (at-length .if1 .left) _ (at-check .check .ensures) _ (at-fields .f .given .1))
-    (valid-told _ _ (at-data-scan .is-valid .ensures) (c .before .before .before .if2 .left)) _ (c .before .is-valid2 .ensures) (c .if3 .taken)
+    let at-length = c .before .before .before .before .before .before .before .before .before in
+    let at-check = c .before .before .before .before .before .before .before .before in
+    let at-accepted = c .before .before .before .before .before .before in
+    calls-group-invalid _ _ (at-length .if1 .left) (passed-told _ _ (at-check .check .ensures) _ (at-accepted .enum-told .given .1))
+    (valid-told _ _ (c .before .before .before .before .is-valid .ensures) (c .before .before .before .if2 .left)) _ (c .before .is-valid2 .ensures)
+    (c .if3 .taken)
 
-accepted-requires : tie.Need-accepted-requires
-accepted-requires c κs =
-    let at-length = c .before .before .before .before .before .before .before .before .before .before .before .before .before in
-    let at-check = c .before .before .before .before .before .before .before .before .before .before .before .before in
-    let at-fields = c .before .before .before .before .before .before .before .before .before .before in
+inner-call-requires : tie.Need-inner-call-requires
+inner-call-requires c κs =
     let at-data-scan = c .before .before .before .before .before .before .before in
     let at-data-test = c .before .before .before .before .before .before in
-    let at-group-scan = c .before .before .before .before in
-    let at-group-test = c .before .before .before in (
-      sound-both _ _ (valid-told _ _ (at-data-scan .is-valid .ensures) (at-data-test .if2 .left))
-          (valid-told _ _ (at-group-scan .is-valid2 .ensures) (at-group-test .if3 .left)),
-      asked-accepted _ _ (at-length .if1 .left) _ (at-check .check .ensures) _ (at-fields .f .given .1),
-    )
+    sound-both _ _ (valid-told _ _ (at-data-scan .is-valid .ensures) (at-data-test .if2 .left))
+    (valid-told _ _ (c .before .before .before .before .is-valid2 .ensures) (c .before .before .before .if3 .left))
 
 same-length-4 : tie.Need-same-length-4
 same-length-4 c = search needs
@@ -89,7 +80,7 @@ call-spec =
     check-requires
     enum-known-n
     returns-2
-    enum-known-f
+    enum-told
     is-valid-requires
     same-length
     returns-3
@@ -97,7 +88,7 @@ call-spec =
     same-length-2
     same-length-3
     returns-4
-    accepted-requires
+    inner-call-requires
     same-length-4
     same-length-5
     same-length-6

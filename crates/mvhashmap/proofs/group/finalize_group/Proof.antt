@@ -18,7 +18,7 @@ same-length-2 c = search needs
 returns : tie.Need-returns
 returns c =
     let at-start = c .before .before .before .before .before .before .before .before .before .before in
-    serves-finalize _ _ _ _ _ _ _ (asks-finalize _ _ _ (at-start .pre .1 .0) (at-start .pre .1 .1)) _ (c .before .before .before .before .finalize-group .ensures)
+    serves-finalize _ _ _ _ _ (at-start .pre .0) _ _ (asks-finalize _ _ _ (at-start .pre .1 .0) (at-start .pre .1 .1)) _ (c .before .before .before .before .finalize-group .ensures)
 
 pub finalize-group-spec : {M : Type 1} → statement M
 finalize-group-spec =

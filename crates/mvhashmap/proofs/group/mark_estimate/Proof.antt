@@ -23,7 +23,7 @@ returns : tie.Need-returns
 returns c =
     let at-start = c .before .before .before .before .before .before .before .before .before .before .before in
     let at-mark-estimate = c .before .before .before .before .before .before in
-    serves-group-edit _ _ _ _ _ _ _ _ (asks-group-estimate _ _ _ (at-start .pre .1 .0) (at-start .pre .1 .1)) markGroup-done _ _ (at-mark-estimate .mark-estimate .ensures) (c .before .before .done .ensures)
+    serves-group-edit _ _ _ _ _ (at-start .pre .0) _ _ _ (asks-group-estimate _ _ _ (at-start .pre .1 .0) (at-start .pre .1 .1)) markGroup-done _ _ (at-mark-estimate .mark-estimate .ensures) (c .before .before .done .ensures)
 
 pub mark-estimate-spec : {M : Type 1} → statement M
 mark-estimate-spec =

@@ -23,7 +23,7 @@ returns : tie.Need-returns
 returns c =
     let at-start = c .before .before .before .before .before .before .before .before .before .before .before in
     let at-remove = c .before .before .before .before .before .before in
-    serves-group-edit _ _ _ _ _ _ _ _ (asks-group-remove _ _ _ (at-start .pre .1 .0) (at-start .pre .1 .1)) removeGroup-done _ _ (at-remove .remove .ensures) (c .before .before .done .ensures)
+    serves-group-edit _ _ _ _ _ (at-start .pre .0) _ _ _ (asks-group-remove _ _ _ (at-start .pre .1 .0) (at-start .pre .1 .1)) removeGroup-done _ _ (at-remove .remove .ensures) (c .before .before .done .ensures)
 
 pub remove-spec : {M : Type 1} → statement M
 remove-spec = tie.close (tie.spec remove-requires done-requires same-length same-length-2 returns)

@@ -26,7 +26,7 @@ returns : tie.Need-returns
 returns c =
     let at-start = c .before .before .before .before .before .before .before .before .before .before .before in
     let at-update-tagged-base-value-with-layout = c .before .before .before .before .before .before in
-    serves-group-commit _ _ _ _ _ _ 0 _ (asks-exchange _ _ _ (at-start .pre .1 .0) (at-start .pre .1 .1)) (updateTaggedBaseValue-done _ _ _) _ _ (at-update-tagged-base-value-with-layout .update-tagged-base-value-with-layout .ensures) (c .before .before .done .ensures)
+    serves-group-commit _ _ _ _ _ (at-start .pre .0) _ 0 _ (asks-exchange _ _ _ (at-start .pre .1 .0) (at-start .pre .1 .1)) (updateTaggedBaseValue-done _ _ _) _ _ (at-update-tagged-base-value-with-layout .update-tagged-base-value-with-layout .ensures) (c .before .before .done .ensures)
 
 pub update-tagged-base-value-with-layout-spec : {M : Type 1} → statement M
 update-tagged-base-value-with-layout-spec =

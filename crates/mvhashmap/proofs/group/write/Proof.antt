@@ -22,7 +22,7 @@ returns : tie.Need-returns
 returns c =
     let at-start = c .before .before .before .before .before .before .before .before .before .before .before in
     let at-write = c .before .before .before .before .before .before in
-    serves-group-write _ _ _ _ _ _ _ _ _ (asks-group-write _ _ _ (at-start .pre .1 .0) (at-start .pre .1 .1)) _ _ (at-write .write .ensures) (c .before .before .put-written .ensures)
+    serves-group-write _ _ _ _ _ (at-start .pre .0) _ _ _ _ (asks-group-write _ _ _ (at-start .pre .1 .0) (at-start .pre .1 .1)) _ _ (at-write .write .ensures) (c .before .before .put-written .ensures)
 
 pub write-spec : {M : Type 1} → statement M
 write-spec =
