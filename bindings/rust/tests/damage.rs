@@ -1,11 +1,13 @@
 //! Lent stores with damaged words: a store is refused by 5 exactly if `common::valid` says that
-//! its words break rule 5, and whatever an accepted call leaves is valid again.
+//! its words break rule 5, whatever an accepted call leaves is valid again, and a data store that is
+//! still valid answers what its words say.
 
 mod common;
 
 use common::lent::Lent;
 use common::random::Random;
 use common::valid::both_valid;
+use common::valid::data::{entries_in, exchange_payloads, Cell, Entry};
 use common::words::*;
 use proved_mvhashmap::{Refusal, UNIT_WORDS};
 
@@ -61,7 +63,15 @@ fn probes() -> Vec<Vec<u32>> {
     ]
 }
 
-/// Valid stores: full, with room, and empty ones.
+/// Data over several pages: more than are filled in order, and gaps from removals.
+fn many_pages() -> Vec<Vec<u32>> {
+    let writes = (0..95).map(|n| write(n * 37 % 95 / 8, n * 37 % 95 % 8, n, numbered(n.into())));
+    let removals = (0..95).filter(|n| n % 3 == 0).map(|n| remove(n / 8, n % 8));
+    let deltas = (0..12).map(|n| add_delta(n, 9, &plus(n as u128 + 1, 1000)));
+    writes.chain(removals).chain(deltas).collect()
+}
+
+/// Valid stores: full, with room, of several pages, and empty ones.
 fn stores() -> Vec<Lent> {
     vec![
         Lent::with_units(8, 15).after(&data_requests()).after(&group_requests()),
@@ -70,14 +80,38 @@ fn stores() -> Vec<Lent> {
         Lent::with_units(9, 2).after(&data_requests()),
         Lent::with_units(2, 16).after(&group_requests()),
         Lent::with_units(1, 2).after(&[base(0, raw(DELETION, 0)), group_base(0, &[])]),
+        Lent::with_units(96, 1).after(&many_pages()),
     ]
 }
+
+/// The greatest index that a request may name.
+const LAST_INDEX: u32 = u32::MAX - 1;
 
 /// How many of the stores that were tried broke rule 5, and how many did not.
 #[derive(Default)]
 struct Tried {
     damaged: usize,
     valid: usize,
+    /// Changed entries that a fetch answered as the words say.
+    said: usize,
+}
+
+/// Holds the fetch right above an entry to the entry. A delta without shortcut is answered by what is
+/// below it, and the last index has no reader above it: nothing is asked of those.
+fn says(lent: &Lent, (key, place): (u32, u32), entry: &Entry) -> bool {
+    let answer = |kind: u32, words: &[u32]| Ok(request(kind, words));
+    let expected = match &entry.cell {
+        _ if place > LAST_INDEX => return false,
+        _ if entry.estimate => answer(6, &[place - 1]),
+        Cell::Write { value, .. } if place == 0 => answer(11, value),
+        Cell::Write { incarnation, value } => {
+            answer(1, &[&[place - 1, *incarnation], &value[..]].concat())
+        }
+        Cell::Shortcut(_, number) => answer(2, number),
+        Cell::Delta(_) => return false,
+    };
+    assert_eq!(lent.clone().call(&fetch(key, place)), expected, "{key}, {place}: {entry:?}");
+    true
 }
 
 impl Tried {
@@ -93,6 +127,21 @@ impl Tried {
         } else {
             self.valid += 1;
             assert!(both_valid(&lent.data, &lent.group), "{request:X?} left\n{}", shown(&lent));
+        }
+    }
+
+    /// The same for a change of a store: if it is still valid, a fetch right above each data entry
+    /// that the change made other than it was answers what the words say now.
+    fn change(&mut self, store: &Lent, damaged: &Lent, request: &[u32]) {
+        self.call(damaged, request);
+        if !both_valid(&damaged.data, &damaged.group) {
+            return;
+        }
+        let before = entries_in(&store.data).unwrap();
+        for (place, entry) in entries_in(&damaged.data).unwrap() {
+            if before.get(&place) != Some(&entry) {
+                self.said += usize::from(says(damaged, place, &entry));
+            }
         }
     }
 
@@ -137,6 +186,7 @@ fn the_judgement_holds_of_whatever_the_library_made() {
 
 #[test]
 fn every_word_changed_in_turn() {
+    let mut said = 0;
     for store in stores() {
         let mut tried = Tried::default();
         let probes = probes();
@@ -146,11 +196,13 @@ fn every_word_changed_in_turn() {
             let word = *word_of(&mut damaged, at);
             for change in changes(word) {
                 *word_of(&mut damaged, at) = change;
-                tried.call(&damaged, requests.next().unwrap());
+                tried.change(&store, &damaged, requests.next().unwrap());
             }
         }
         tried.met_both();
+        said += tried.said;
     }
+    assert!(said > 0);
 }
 
 #[test]
@@ -218,9 +270,7 @@ fn several_words_changed_at_random() {
     for _ in 0..40_000 {
         let mut damaged = stores[random.below(stores.len() as u32) as usize].clone();
         for _ in 0..1 + random.below(3) {
-            // The words with rules stand at the start of a unit.
-            let unit = random.below((words_in(&damaged) / UNIT_WORDS) as u32) as usize;
-            let at = unit * UNIT_WORDS + random.below(28) as usize;
+            let at = random.below(words_in(&damaged) as u32) as usize;
             let few = random.below(4);
             let near = word_of(&mut damaged, at).wrapping_add(few).wrapping_sub(2);
             let any = random.word();
@@ -252,4 +302,37 @@ fn all_words_random_or_alike() {
         }
     }
     tried.met_both();
+}
+
+/// Nobody sees where an entry lies.
+fn answer_alike(mut one: Lent, mut other: Lent) {
+    assert!(one.data != other.data && entries_in(&one.data) == entries_in(&other.data));
+    for request in probes() {
+        assert_eq!(one.call(&request), other.call(&request), "{request:X?}");
+        assert_eq!(entries_in(&one.data), entries_in(&other.data), "{request:X?}");
+    }
+}
+
+#[test]
+fn payloads_exchanged_with_their_numbers() {
+    for store in stores() {
+        let held = store.data[0] as usize;
+        for (one, other) in (0..held).flat_map(|one| (0..one).map(move |other| (one, other))) {
+            let mut exchanged = store.clone();
+            exchange_payloads(&mut exchanged.data, one, other);
+            answer_alike(store.clone(), exchanged);
+        }
+    }
+}
+
+#[test]
+fn one_content_by_two_histories() {
+    for units in [12, 64, 65, 96, 300] {
+        let write = |n: u32| write(n / 5, n % 5, 1, numbered(n.into()));
+        let (rising, falling) = (0..units - 1, (0..units - 1).rev());
+        let one = Lent::with_units(units as usize, 1).after(&rising.map(write).collect::<Vec<_>>());
+        let gone = [write(units * 5), remove(units, 0)];
+        let two = Lent::with_units(units as usize, 1).after(&gone);
+        answer_alike(one, two.after(&falling.map(write).collect::<Vec<_>>()));
+    }
 }

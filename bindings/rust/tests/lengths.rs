@@ -172,20 +172,28 @@ fn stores_of_few_words() {
     }
 }
 
-/// Full stores are made once and cut to length: filling each would take long.
+/// Stores of so many units, full.
+fn full(units: usize) -> Lent {
+    let mut lent = Lent::with_units(units, units);
+    for index in 0..units as u32 {
+        lent.call(&write(1, index, 0, numbered(1))).unwrap();
+        lent.call(&group_write(1, index, 0, &[])).unwrap();
+    }
+    lent
+}
+
+/// Full stores are made once for each number of units: filling one for each length would take long.
 #[test]
 fn stores_around_the_most_units() {
     let most = MAX_UNITS * UNIT_WORDS;
-    let mut full = Lent::with_words(most, most);
-    for index in 0..MAX_UNITS {
-        full.call(&write(1, index as u32, 0, numbered(1))).unwrap();
-        full.call(&group_write(1, index as u32, 0, &[])).unwrap();
-    }
-    for words in most - 33..=most + 33 {
-        let mut lent = with_free_words(words);
-        let held = units_of(words) * UNIT_WORDS;
-        lent.data[..held].copy_from_slice(&full.data[..held]);
-        lent.group[..held].copy_from_slice(&full.group[..held]);
-        takes_its_units(lent, units_of(words));
+    for units in MAX_UNITS - 2..=MAX_UNITS {
+        let full = full(units);
+        for words in (most - 33..=most + 33).filter(|&words| units_of(words) == units) {
+            let mut lent = with_free_words(words);
+            let held = units * UNIT_WORDS;
+            lent.data[..held].copy_from_slice(&full.data);
+            lent.group[..held].copy_from_slice(&full.group);
+            takes_its_units(lent, units);
+        }
     }
 }
