@@ -52,6 +52,9 @@ unfolding merged_if is_joined kept_or
 merged_if_kept n (Joined d) = refl
 merged_if_kept n Apart = refl
 
+pub merged_if_same : (n d : DeltaOp) (m r : Merged) (ok : Bool) → r ≡ merged_if ok d → ok ≡ is_joined m → d ≡ kept_or n m → r ≡ m
+merged_if_same n d m r ok e f g = e ∙ rw (f, g) (merged_if_kept n m)
+
 module _ (n p : DeltaOp) where
   pub newer_bad : valid_op n ≡ false → Apart ≡ merged_of (merge_ops n p)
   unfolding merged_of merge_ops

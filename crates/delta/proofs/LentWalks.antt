@@ -4,7 +4,7 @@ use mathlib.Core.List.{List, [], ◌∷◌}
 use Prim.Native.Nat.{ℕ, zero, suc, ◌+◌}
 use lib.ListN.{take, drop as without}
 use seplogic.Ra.Ura.{Ura}
-use seplogic.Ra.TreeShare.{full_share}
+use base.Fraction.{full_share}
 use mir.Val.{Val}
 use base.Logic.{SProp, ent, sep, via, assoc∗, assoc'}
 use base.Fml.{Share, ftrue, fsep}
@@ -30,11 +30,11 @@ needs_both 𝓤 φ ψ P h =
 
 module _ {M : Type 1} {𝓤 : Ura M} {𝓛 : Logic 𝓤} {K : Type 0} {Γ : List (Item 𝓤)} {G : Goal 𝓤 𝓛.H} where
   -- a cell and what its value owns: the value lies there
-  pub lies_in : K → (R : RattleType) (h : R.Denot) (vs : List Val) (b o : ℕ) → Step K 𝓛 (‵ ((mem R).own_at h b o) ∷ Γ) G (‵ (cell_at full_share R.mir vs b o) ∷ ‵ (R.own h vs) ∷ Γ) G
+  pub lies_in : K → (R : RattleType) (h : R.Denot) (vs : List Val) (b o : ℕ) → Step K 𝓛 (‵ ((mem R).own_at h b o) ∷ Γ) G (‵ (cell_at full_share R.mir vs b o) ∷ ‵ (R.own_val h vs) ∷ Γ) G
   unfolding part_of
-  lies_in t R h vs b o = step (λ s. fjoin t $ fpack t (List Val) (λ us. fsep (cell_at full_share R.mir us b o) (R.own h us)) vs $ s)
+  lies_in t R h vs b o = step (λ s. fjoin t $ fpack t (List Val) (λ us. fsep (cell_at full_share R.mir us b o) (R.own_val h us)) vs $ s)
 
-  pub lies_out : K → (R : RattleType) (h : R.Denot) (b o : ℕ) → ((vs : List Val) → Seq K 𝓛 (‵ (cell_at full_share R.mir vs b o) ∷ ‵ (R.own h vs) ∷ Γ) G) → Seq K 𝓛 (‵ ((mem R).own_at h b o) ∷ Γ) G
+  pub lies_out : K → (R : RattleType) (h : R.Denot) (b o : ℕ) → ((vs : List Val) → Seq K 𝓛 (‵ (cell_at full_share R.mir vs b o) ∷ ‵ (R.own_val h vs) ∷ Γ) G) → Seq K 𝓛 (‵ ((mem R).own_at h b o) ∷ Γ) G
   unfolding part_of
   lies_out t R h b o k = fpick t (λ vs. fsplit t $ k vs)
 

@@ -6,7 +6,7 @@ ghost use Rattle.delta.specs.Op.{exact, merged_of, accumulator_of, absorbed_of, 
 use super::{Accumulator, DeltaOp, Merged};
 
 // What the lent delta becomes, and whether it was merged.
-#[derive(Drop)]
+#[derive(Clone, Copy)]
 struct Absorbed {
     delta: DeltaOp,
     ok: bool,

@@ -1,4 +1,6 @@
 // Deltas by value: a change to a number that keeps within a limit on its way.
+#![tactic(auto)]
+
 ghost use Rattle.std.specs.Prelude.{◌≡◌, true};
 ghost use Rattle.number.specs.Number.{value_of};
 ghost use Rattle.delta.specs.Delta.{valid, apply_to, merge, accumulate, valid_so_far};
@@ -12,7 +14,7 @@ mod signed;
 pub mod words;
 
 // A delta. The Rust's `DeltaOp` holds the same in its own form.
-#[derive(Drop)]
+#[derive(Clone, Copy)]
 pub struct DeltaOp {
     // The greatest number allowed (01: M; the Rust's max_value).
     pub limit: Number,
@@ -28,7 +30,7 @@ pub struct DeltaOp {
 }
 
 // What applying a delta comes to.
-#[derive(Drop)]
+#[derive(Clone, Copy)]
 pub enum Applied {
     Value(Number),
     // Below the lowest or above the limit on its way.
@@ -36,7 +38,7 @@ pub enum Applied {
 }
 
 // What merging two deltas comes to.
-#[derive(Drop)]
+#[derive(Clone, Copy)]
 pub enum Merged {
     Joined(DeltaOp),
     // The limits differ, or what the two reach together exceeds the limit.
@@ -44,7 +46,7 @@ pub enum Merged {
 }
 
 // What a walk over deltas, newest first, has gathered.
-#[derive(Drop)]
+#[derive(Clone, Copy)]
 pub enum Accumulator {
     Empty,
     Gathered(DeltaOp),

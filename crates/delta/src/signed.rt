@@ -7,7 +7,7 @@ ghost use Rattle.delta.specs.Op.{change_of, reach_of};
 use number::{Difference, Number, Sum};
 
 // A sum of signed numbers: its size, and whether it is below zero.
-#[derive(Drop)]
+#[derive(Clone, Copy)]
 pub enum Change {
     To(Number, bool),
     // The size is 2^128 or more.
@@ -15,7 +15,7 @@ pub enum Change {
 }
 
 // How far two deltas reach together.
-#[derive(Drop)]
+#[derive(Clone, Copy)]
 pub enum Reach {
     Within(Number),
     Beyond,

@@ -1,7 +1,7 @@
 -- What a user of the group store relies on: the size is the sum over what fetches of each tag see, and a finalise changes the committed group by
 -- exactly the update.
 -- Assumes nothing.
-use mathlib.Core.Path.{◌≡◌, refl, sym, ◌∙◌, ap}
+use mathlib.Core.Path.{◌≡◌, refl, sym, ◌∙◌, ap, subst}
 use mathlib.Core.Bool.{Bool, true, false, cond, not, ◌&&◌}
 use mathlib.Core.List.{List, [], ◌∷◌, ◌++◌, map}
 use mathlib.Core.Option.{Option, none, some}
@@ -211,11 +211,13 @@ module _ (key : ℕ) where
       go (allowed key g m) (rw (commit_one_is key m g) at e)
       (λ f. commit_find ms (after_one key m g) h (and_right (not (is_some (member_value m.tag ms))) (distinct ms) d) f tag)
     where
-      by : Dec (tag ≡ m.tag) → find key tag h ≡ committed_by (member_value tag ms) (find key tag (after_one key m g)) → find key tag h ≡ committed_by (member_value tag (m ∷ ms)) (find key tag g)
-      by (yes p) ih =
-          ih
-          ∙ rw (p, value_of_head m ms, not_some (member_value m.tag ms) (and_left (not (is_some (member_value m.tag ms))) (distinct ms) d))
+      own : committed_by (member_value m.tag ms) (find key m.tag (after_one key m g)) ≡ committed_by (member_value m.tag (m ∷ ms)) (find key m.tag g)
+      own =
+          rw (value_of_head m ms, not_some (member_value m.tag ms) (and_left (not (is_some (member_value m.tag ms))) (distinct ms) d))
           (find_one_same key m g)
+
+      by : Dec (tag ≡ m.tag) → find key tag h ≡ committed_by (member_value tag ms) (find key tag (after_one key m g)) → find key tag h ≡ committed_by (member_value tag (m ∷ ms)) (find key tag g)
+      by (yes p) ih = ih ∙ subst (λ (k : ℕ). committed_by (member_value k ms) (find key k (after_one key m g)) ≡ committed_by (member_value k (m ∷ ms)) (find key k g)) (sym p) own
       by (no p) ih = ih ∙ rw (find_one_other key m g tag p, value_of_tail tag m ms p)
 
       go : (b : Bool) → commit_rest (cond b (some (after_one key m g)) none) (λ i. commit key ms i) ≡ some h →

@@ -1,6 +1,6 @@
 -- An answer's set and values, read as a request's are, give back the committed group: both are written in one format.
 -- Assumes nothing.
-use mathlib.Core.Path.{◌≡◌, refl, sym, ◌∙◌, ap, ap₂}
+use mathlib.Core.Path.{◌≡◌, refl, sym, ◌∙◌, ap, ap₂, subst}
 use mathlib.Core.Bool.{Bool, true, false, cond, not, ◌&&◌}
 use mathlib.Core.Logic.{inl, inr}
 use mathlib.Core.List.{List, [], ◌∷◌, ◌++◌, map}
@@ -74,10 +74,10 @@ tags_from_bits (suc n) t (x ∷ xs) r a b =
         let l : AtLeast (suc t) xs = rw e at r.0 in
         let z : x - t ≡ 0 = omega arith in
         odd_step n t (bits t (x ∷ xs)) (bits (suc t) xs) (rw (z, bits_double t xs l))
-        ∙ ap₂ (λ (y : ℕ) (ys : List ℕ). y ∷ ys) (sym e) (later l (rw sum at b.1))
+        ∙ ap₂ (λ (y : ℕ) (ys : List ℕ). y ∷ ys) (sym e) (later l (subst (λ (k : ℕ). Below k xs) sum b.1))
     go (no e) later whole =
         let l : AtLeast (suc t) (x ∷ xs) = (omega (arith, a.0), at_least_less (suc t) (suc x) xs (omega (arith, a.0)) r.0) in
-        even_step n t (bits t (x ∷ xs)) (bits (suc t) (x ∷ xs)) (bits_double t (x ∷ xs) l) ∙ whole l (rw sum at b)
+        even_step n t (bits t (x ∷ xs)) (bits (suc t) (x ∷ xs)) (bits_double t (x ∷ xs) l) ∙ whole l (subst (λ (k : ℕ). Below k (x ∷ xs)) sum b)
 
 -- ---- in two words
 

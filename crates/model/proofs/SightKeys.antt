@@ -10,7 +10,6 @@ use lib.Dec.{eqb}
 use borrow.Author.Tests.{eq-eqb}
 use Rattle.lists.specs.Lists.{keep, every}
 use Rattle.lists.proofs.Bools.{and_left, never}
-use Rattle.request.specs.Request
 use Rattle.request.specs.Request.{Request}
 use Rattle.model.specs.Rows.{find}
 use Rattle.model.specs.Data.{Ruling, refuse, accept}

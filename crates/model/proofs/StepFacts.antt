@@ -12,7 +12,6 @@ use Rattle.lists.proofs.Bools.{and_left, and_right, never}
 use Rattle.types.specs.Refusal.{wrong_count, bad_field, index_too_high, of_request, of_entry, of_commit, of_materialize, of_rules, of_units, of_step, is_in, is_refusal}
 use Rattle.types.proofs.RefusalLaws.{is_in_left, is_in_right, units_step, step_refusal}
 use Rattle.request.specs.Request.{row_at, shape_ok, fields_ok, index_ok, refusal_of, request_of}
-use Rattle.request.specs.Request as Ask
 use Rattle.model.specs.Data.{Ruling, refuse, accept}
 use Rattle.model.specs.Model.{Model, empty, Fixed, work_of, perform, unless_refused, ruling, step, left_by, after}
 use Rattle.model.specs.Fine.{is_word, fine, fine_answer}

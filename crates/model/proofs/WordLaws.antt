@@ -18,7 +18,6 @@ use Rattle.delta.specs.Delta.{Delta, valid}
 use Rattle.delta.proofs.DeltaFormat.{length_delta_words, valid_small, delta_at_delta_words, delta_ok_delta_words}
 use Rattle.types.specs.Value.{value_width, value_at, value_ok, is_deletion}
 use Rattle.types.specs.Response.{response, most_tags}
-use Rattle.request.specs.Table
 use Rattle.request.specs.Set.{tags_of, Member, members_of}
 use Rattle.request.proofs.SetTags.{Rising, Below, tags_length_le}
 use Rattle.request.specs.Table.{by_set, Row, row, at, table, row_of}

@@ -8,7 +8,6 @@ use Prim.Native.Nat.{ℕ}
 use Rattle.lists.specs.Lists.{every}
 use Rattle.lists.proofs.Bools.{and_left, and_right}
 use Rattle.types.specs.Refusal.{of_rules}
-use Rattle.request.specs.Request as Ask
 use Rattle.model.specs.Rows.{Row, find, down_from, Edit, edited}
 use Rattle.model.specs.Data.{Entry}
 use Rattle.model.specs.Group.{Update, Committed, Commits}

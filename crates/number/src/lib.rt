@@ -1,19 +1,21 @@
 // 128-bit numbers as two 64-bit halves, by value: sums, differences and comparisons that are
 // exact. Halves are added with carry, and what the two halves do not hold is reported.
+#![tactic(auto)]
+
 ghost use Rattle.std.specs.Prelude.{◌≡◌, max, ◌==◌, nat_le, nat_lt};
 ghost use Rattle.number.specs.Number.{value_of, number_of, carry_of, borrow_of, sum_of, difference_of};
 
 pub mod words;
 
 // lo + hi * 2^64.
-#[derive(Drop)]
+#[derive(Clone, Copy)]
 pub struct Number {
     pub lo: u64,
     pub hi: u64,
 }
 
 // What a sum comes to.
-#[derive(Drop)]
+#[derive(Clone, Copy)]
 pub enum Sum {
     Total(Number),
     // The sum is 2^128 or more.
@@ -21,7 +23,7 @@ pub enum Sum {
 }
 
 // What a difference comes to.
-#[derive(Drop)]
+#[derive(Clone, Copy)]
 pub enum Difference {
     Rest(Number),
     // The difference is less than zero.

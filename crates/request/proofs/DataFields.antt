@@ -9,7 +9,7 @@ use lib.ListN.{length, get_or, take, drop, length-drop}
 use lib.Seq.{take_all}
 use Rattle.delta.specs.Delta.{delta_width, delta_at, delta_ok}
 use Rattle.types.specs.Value.{value_width, value_at}
-use Rattle.request.specs.Table.{alone, row, at, table, row_of, key_place, index_place, incarnation_place}
+use Rattle.request.specs.Table.{row, at, table, row_of, key_place, index_place, incarnation_place}
 use Rattle.request.specs.Request.{row_at, value_in, delta_in, tail_length, refusal_of, base, write, add_delta, estimate, remove, fetch, materialize, request_as, request_of}
 use Rattle.request.specs.Fields.{kind_at, index_field, index_at, incarnation_as, fields_at}
 use Rattle.request.specs.Checked.{check_of}

@@ -15,7 +15,7 @@ const INCARNATION: usize = 3;
 pub const TAG: usize = 2;
 
 // A field that the kind does not have is 0. Values and deltas stay in the words of the request: `value` is where they begin.
-#[derive(Drop)]
+#[derive(Clone, Copy)]
 pub struct Fields {
     pub kind: usize,
     pub key: u32,

@@ -6,7 +6,7 @@ use super::table;
 use super::table::Row;
 use types::response;
 
-#[derive(Drop)]
+#[derive(Clone, Copy)]
 pub struct Head {
     pub kind: usize,
     // How many words follow the head.

@@ -1,4 +1,6 @@
 // What the words of a request ask, and whether they may ask it.
+#![tactic(auto)]
+
 ghost use Rattle.std.specs.Prelude.{◌≡◌};
 ghost use Rattle.request.specs.Checked.{check_of};
 
@@ -14,7 +16,7 @@ pub mod set;
 pub mod shape;
 pub mod table;
 
-#[derive(Drop)]
+#[derive(Clone, Copy)]
 pub enum Checked {
     // 2, 3 or 4: the lowest that applies.
     Refused(u32),

@@ -4,7 +4,7 @@ ghost use Rattle.std.specs.Prelude.{◌≡◌, ◌-◌, ◌^◌, ◌<◌, length
 ghost use Rattle.std.specs.Int.Count.{count_trailing_zeros};
 ghost use Rattle.request.specs.Set.{tags_of};
 
-#[derive(Drop)]
+#[derive(Clone, Copy)]
 pub struct Set {
     pub low: u32,
     pub high: u32,

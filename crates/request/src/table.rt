@@ -15,7 +15,7 @@ pub const BY_SET: usize = 1;
 // .. with words as often as a field says. All other forms are a kind that no request is of.
 pub const BY_COUNT: usize = 2;
 
-#[derive(Drop)]
+#[derive(Clone, Copy)]
 pub struct Row {
     // Words after the head, the tail left out.
     pub fixed: usize,
@@ -35,11 +35,11 @@ pub struct Row {
 }
 
 // A tail in bytes: form, words for each, and the place and the bound of a count.
-#[derive(Drop)]
+#[derive(Clone, Copy)]
 struct Tail(u8, u8, u8, u8);
 
 // A row in bytes, so that the whole table is a few words: `fixed`, the tail, `value`, `index`, and how often a request adds to its index.
-#[derive(Drop)]
+#[derive(Clone, Copy)]
 pub struct Cells(pub u8, Tail, u8, u8, pub u8);
 
 const VALUE: u8 = VALUE_WIDTH as u8;

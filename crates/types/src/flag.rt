@@ -2,7 +2,7 @@
 ghost use Rattle.std.specs.Prelude.{◌≡◌};
 ghost use Rattle.types.specs.Flag.{flag_word};
 
-#[derive(Drop)]
+#[derive(Clone, Copy)]
 pub enum Flag {
     Done,
     Estimate,

@@ -9,10 +9,10 @@ pub type Incarnation = u32;
 // To keep a base value at the lowest index without conflicting with transaction index 0, this
 // wraps the index and increments it by 1. The field is private: a count of the one kind never
 // meets a count of the other but through these conversions.
-#[derive(Drop)]
+#[derive(Clone, Copy)]
 pub struct ShiftedTxnIndex(u32);
 
-#[derive(Drop)]
+#[derive(Clone, Copy)]
 pub enum IndexOrStorage {
     Index(TxnIndex),
     StorageVersion,

@@ -4,7 +4,7 @@ use super::value::ValueWithLayout;
 use delta::DeltaOp;
 use number::Number;
 
-#[derive(Drop)]
+#[derive(Clone, Copy)]
 pub enum MVDataOutput {
     // The last versioned write. At the base its index is the storage version.
     Versioned(ShiftedTxnIndex, Incarnation, ValueWithLayout),
@@ -22,7 +22,7 @@ pub enum MVDataOutput {
     NoNumberUnderDelta,
 }
 
-#[derive(Drop)]
+#[derive(Clone, Copy)]
 pub enum MVGroupOutput {
     Versioned(ShiftedTxnIndex, Incarnation, ValueWithLayout),
     // Members that have bytes, and the sum of their lengths plus 1 each.

@@ -16,7 +16,7 @@ const MAX_LENGTH: u32 = 1048576;
 // Only a value of so many bytes can be a number.
 const NUMBER_LENGTH: u32 = 16;
 
-#[derive(Drop)]
+#[derive(Clone, Copy)]
 pub struct ValueWithLayout {
     pub head: u32,
     pub layout: u32,
@@ -25,14 +25,14 @@ pub struct ValueWithLayout {
 }
 
 // How many bytes a value has. A deletion has none, which is not the same as 0 bytes.
-#[derive(Drop)]
+#[derive(Clone, Copy)]
 pub enum BytesLen {
     Length(u32),
     NoBytes,
 }
 
 // What deltas above a value find in it.
-#[derive(Drop)]
+#[derive(Clone, Copy)]
 pub enum AsU128 {
     Deleted,
     Value(Number),

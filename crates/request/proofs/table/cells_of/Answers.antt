@@ -1,0 +1,14 @@
+-- `request::table::cells_of` meets its contract.
+-- Assumes nothing.
+use mathlib.Core.Path.{refl}
+use Rattle.request.specs.Table.{at, row, table}
+use Rattle.request.specs.Request.{last_index}
+use Rattle.request.specs.Rows.{place_of, last_of, form_of, each_of, counter_of, most_of, added_to}
+use Rattle.request.proofs.TableRule.{code_cells}
+use Rattle.request.proofs.table.cells_of.Goals as goal
+
+-- The rule over the whole table is one equation, which antt computes.
+pub returns : goal.returns
+unfolding table row at place_of last_of last_index form_of each_of counter_of most_of added_to
+returns c =
+    record { cells = code_cells _ refl _ _ c.requires.four_bits }
