@@ -34,7 +34,7 @@ pub fn room(n: usize) -> usize
 }
 
 // A place among the cells: before cell `cell` of a page, or if `is` is false at the end of the page's cells.
-#[derive(Drop)]
+#[derive(Clone, Copy)]
 pub struct Spot {
     pub page: usize,
     pub cell: usize,

@@ -142,7 +142,7 @@ fn free_page(s: &mut [u32], base: usize, n: usize, k: usize) -> usize
 }
 
 // A place in a page.
-#[derive(Drop)]
+#[derive(Clone, Copy)]
 pub struct Place {
     pub page: usize,
     pub cell: usize,

@@ -1,4 +1,6 @@
 // Words moved up, copied, cleared, and scanned for zeros.
+#![tactic(auto)]
+
 ghost use Rattle.std.specs.Prelude.{◌≡◌, ◌+◌, ◌-◌, ◌≤◌, length, take, drop};
 ghost use Rattle.moves.specs.Moves.{Raised, Copied, Cleared, Clear, all_zero};
 

@@ -18,7 +18,7 @@ use Rattle.directory.specs.Edits as DirEdits
 use Rattle.directory.proofs.Frames.{page_length}
 use Rattle.directory.proofs.Directories.{laid_of}
 use Rattle.store.specs.Held.{base_of, payload_at, carried_at, held, position_of, content_of, no_row, no_cell}
-use Rattle.store.specs.Valid.{Valid, Stands, There}
+use Rattle.store.specs.Valid.{Valid, There}
 use Rattle.store.specs.Edits.{Left, marked}
 use Rattle.store.proofs.Listed.{map_set, set_same, get_d_map, tied_same}
 use Rattle.store.proofs.Contents.{base_is, number_at, held_length, row_at, payload_in, units_in_lem, carried_words, payload_same}

@@ -1,8 +1,7 @@
 -- What an operation leaves of a store: a valid store of as many words that holds these rows, and the words past the last unit as they were.
 use Rattle.std.specs.Prelude.{◌≡◌, Bool, true, List, ◌∷◌, ℕ, ◌+◌, ◌-◌, ◌*◌, ◌/◌, ◌≤◌, ◌<◌, length, get_or, replicate}
-use Rattle.probe.specs.Cells.{readings}
 use Rattle.numbers.specs.Numbers.{Row}
-use Rattle.store.specs.Held.{held, content_of}
+use Rattle.store.specs.Held.{held}
 use Rattle.store.specs.Valid.{Valid}
 
 pub record Left (w : ℕ) (parted : Bool) (n : ℕ) (rows : List (Row (List ℕ))) (s t : List ℕ) : Type 0 where

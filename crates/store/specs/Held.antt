@@ -1,7 +1,7 @@
 -- What the words of a store of n units hold: a list of rows in falling order. Word 0: units held; word 1: pages in use, less one; words 2 to 5: zero.
 -- Payload q at 6 + w q: place and key of its cell, then its content of w - 2 words. The directory at 6 + w n.
 -- Where a cell or a payload lies is left free: nothing above this crate names a word of it.
-use Rattle.std.specs.Prelude.{◌≡◌, Bool, cond, List, [], map, ℕ, ◌+◌, ◌-◌, ◌*◌, eqb, length, get_or}
+use Rattle.std.specs.Prelude.{Bool, cond, List, [], map, ℕ, ◌+◌, ◌-◌, ◌*◌, eqb, length, get_or}
 use Rattle.probe.specs.Cells.{readings, spot_at}
 use Rattle.types.specs.Units.{units_in}
 use Rattle.numbers.specs.Numbers.{Cell, Row, rows, number_of}

@@ -30,7 +30,7 @@ use Rattle.types.specs.declared.index.ShiftedTxnIndex.{ShiftedTxnIndex}
 use Rattle.types.specs.declared.value.ValueWithLayout.{ValueWithLayout}
 use Rattle.types.specs.declared.output.MVDataOutput.{MVDataOutput}
 use Rattle.types.specs.declared.output.MVDataOutput.TheVariants.{Versioned}
-use Rattle.store.specs.Held.{held, content_of, no_row}
+use Rattle.store.specs.Held.{content_of, no_row}
 use Rattle.store.specs.Valid.{Stands, There}
 use Rattle.store.proofs.Contents.{held_units}
 use Rattle.store.proofs.Reading.{position_held}

@@ -6,7 +6,7 @@ ghost use Rattle.versioned_data.specs.Base.{kept_if, over_base};
 
 use types::value::ValueWithLayout;
 
-#[derive(Drop)]
+#[derive(Clone, Copy)]
 pub enum Base {
     // The base there is kept.
     Keep,

@@ -39,7 +39,7 @@ pub fn fetch_data(s: &[u32], key: u32, txn_idx: TxnIndex) -> MVDataOutput
 }
 
 // Where the content of a write begins, and its shifted index; no content begins at word 0.
-#[derive(Drop)]
+#[derive(Clone, Copy)]
 pub struct First {
     pub content: usize,
     pub place: u32,

@@ -9,7 +9,7 @@ use store::read::{cell_after, find_place, spot_at, units};
 use types::index::ShiftedTxnIndex;
 
 // Where an entry stands, or would be inserted, as a page and a cell of it.
-#[derive(Drop)]
+#[derive(Clone, Copy)]
 pub enum Found {
     There(usize, usize),
     Absent(usize, usize),

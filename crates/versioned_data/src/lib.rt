@@ -1,4 +1,6 @@
 // versioned_data.rs over a store in lent words: kinds 1 to 7.
+#![tactic(auto)]
+
 pub mod base;
 pub mod edit;
 pub mod fetch;

@@ -20,7 +20,7 @@ use types::output::MVDataOutput;
 use types::refusal;
 
 // The Rust's `Result<u128, DeltaOp>`; where it panics, a refusal by its number.
-#[derive(Drop)]
+#[derive(Clone, Copy)]
 pub enum Materialized {
     Refused(u32),
     Resolved(Number),

@@ -1,0 +1,109 @@
+-- `store::edit::erase_moved` meets its contract.
+-- Assumes nothing.
+use mathlib.Core.Path.{refl}
+use mathlib.Core.List.{[]}
+use Rattle.store.specs.Held.{base_of}
+use Rattle.store.specs.Valid.{There}
+use Rattle.store.proofs.Taking.{last_end, hole_before, rename_fits, rename_part, copy_requires, drop_requires, take_moved_requires, take_moved}
+use native.Mathlib.Omega.{arith}
+use borrow.Author.Rules.{rules}
+use Rattle.store.proofs.edit.erase_moved.Goals as goal
+
+pub overflow_sub-w-2 : goal.overflow_sub-w-2
+overflow_sub-w-2 c =
+    rename_fits _ _ _ _ _ _ c.requires.valid c.requires.there _ c.requires.last _ _ _ _ c.requires.among c.requires.owns c.requires.named c.requires.less
+    c.cell_at-a.ensures.word _ (omega arith)
+
+pub overflow_mul-width : goal.overflow_mul-width
+unfolding base_of
+overflow_mul-width c = search rules
+
+pub overflow_add-width : goal.overflow_add-width
+unfolding base_of
+overflow_add-width c = search rules
+
+pub set_word-requires : goal.set_word-requires
+unfolding base_of There
+set_word-requires c =
+    record {
+      directory = c.requires.valid.directory;
+      there = c.requires.among;
+      part = rename_part _ _ _ _ _ _ c.requires.valid c.requires.there _ c.requires.last _ _ _ _ c.requires.among c.requires.owns c.requires.named
+          c.requires.less c.cell_at-a.ensures.word _ (omega arith);
+    }
+
+pub overflow_mul-to : goal.overflow_mul-to
+overflow_mul-to c =
+    omega (
+      arith,
+      last_end _ _ _ _ _ _ c.requires.valid c.requires.there _ c.requires.last,
+      hole_before _ _ _ _ _ _ c.requires.valid c.requires.there _ c.requires.last _ _ _ _ c.requires.among
+          c.requires.owns c.requires.named c.requires.less c.cell_at-a.ensures.word,
+    )
+
+pub overflow_add-to : goal.overflow_add-to
+overflow_add-to c =
+    omega (
+      arith,
+      last_end _ _ _ _ _ _ c.requires.valid c.requires.there _ c.requires.last,
+      hole_before _ _ _ _ _ _ c.requires.valid c.requires.there _ c.requires.last _ _ _ _ c.requires.among
+          c.requires.owns c.requires.named c.requires.less c.cell_at-a.ensures.word,
+    )
+
+pub overflow_mul-from : goal.overflow_mul-from
+overflow_mul-from c =
+    omega (arith, last_end _ _ _ _ _ _ c.requires.valid c.requires.there _ c.requires.last)
+
+pub overflow_add-from : goal.overflow_add-from
+overflow_add-from c =
+    omega (arith, last_end _ _ _ _ _ _ c.requires.valid c.requires.there _ c.requires.last)
+
+pub copy_within-requires : goal.copy_within-requires
+unfolding base_of
+copy_within-requires c =
+    let r = copy_requires _ _ _ _ _ _ c.requires.valid c.requires.there _ c.requires.last _ _ _ _ c.requires.among c.requires.owns c.requires.named c.requires.less
+    c.cell_at-a.ensures.word _ _ [] [] c.set_word.ensures.left
+    c.set_word.ensures.rest in
+    record { into = r.0; inside = r.1.0; clear = r.1.1 }
+
+pub drop_payload-requires : goal.drop_payload-requires
+unfolding base_of
+drop_payload-requires c =
+    record {
+      inside = drop_requires _ _ _ _ _ _ c.requires.valid c.requires.there _ c.requires.last _ _ _ _ c.requires.among c.requires.owns c.requires.named c.requires.less
+          c.cell_at-a.ensures.word _ _ _ []
+          c.set_word.ensures.left
+          c.set_word.ensures.rest c.copy_within.ensures.copied;
+      low = omega arith;
+      some = omega (arith, c.requires.valid.wide);
+    }
+
+pub overflow_mul-width-2 : goal.overflow_mul-width-2
+unfolding base_of
+overflow_mul-width-2 c = search rules
+
+pub overflow_add-width-2 : goal.overflow_add-width-2
+unfolding base_of
+overflow_add-width-2 c = search rules
+
+pub take_cell-requires : goal.take_cell-requires
+unfolding base_of
+take_cell-requires c =
+    let r = take_moved_requires _ _ _ _ _ _ c.requires.valid c.requires.there _ c.requires.last _ _ _ _ c.requires.among c.requires.owns c.requires.named c.requires.less
+    c.cell_at-a.ensures.word _ _ _ _
+    c.set_word.ensures.left
+    c.set_word.ensures.rest
+    c.copy_within.ensures.copied c.drop_payload.ensures.dropped in
+    record { directory = r.0; there = r.1 }
+
+pub returns : goal.returns
+unfolding base_of
+returns c =
+    record {
+      left = take_moved _ _ _ _ _ _ c.requires.valid c.requires.there _ c.requires.last _ _ _ _ c.requires.among c.requires.owns c.requires.named c.requires.less
+          c.cell_at-a.ensures.word
+          _ _ _ _ c.set_word.ensures.left
+          c.set_word.ensures.rest
+          c.copy_within.ensures.copied
+          c.drop_payload.ensures.dropped refl _ c.take_cell.ensures.taken;
+    }

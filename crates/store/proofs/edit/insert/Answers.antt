@@ -1,0 +1,50 @@
+-- `store::edit::insert` meets its contract.
+-- Assumes nothing.
+use mathlib.Core.Path.{refl}
+use Rattle.store.specs.Held.{base_of}
+use Rattle.store.proofs.Inserting.{open_few, open_room, put_requires, put_left}
+use native.Mathlib.Omega.{arith}
+use borrow.Author.Rules.{rules}
+use Rattle.store.proofs.edit.insert.Goals as goal
+
+pub overflow_mul-at : goal.overflow_mul-at
+overflow_mul-at c =
+    omega (arith, open_room _ _ _ _ c.requires.valid c.requires.free, c.requires.valid.wide)
+
+pub overflow_add-at : goal.overflow_add-at
+overflow_add-at c =
+    omega (arith, open_room _ _ _ _ c.requires.valid c.requires.free, c.requires.valid.wide)
+
+pub open_payload-requires : goal.open_payload-requires
+open_payload-requires c =
+    record { low = omega arith; inside = omega (arith, open_room _ _ _ _ c.requires.valid c.requires.free, c.requires.valid.wide); small = omega (arith, open_few _ _ _ _ c.requires.valid c.requires.free) }
+
+pub overflow_mul-width : goal.overflow_mul-width
+unfolding base_of
+overflow_mul-width c = search rules
+
+pub overflow_add-width : goal.overflow_add-width
+unfolding base_of
+overflow_add-width c = search rules
+
+pub overflow_add-q : goal.overflow_add-q
+overflow_add-q c =
+    omega (arith, open_few _ _ _ _ c.requires.valid c.requires.free)
+
+pub put_cell-requires : goal.put_cell-requires
+unfolding base_of
+put_cell-requires c =
+    let r = put_requires _ _ _ _ _ _ _ _ _ _ _ c.requires.valid c.requires.free c.requires.small c.requires.whole c.open_payload.ensures.opened _ _ c.requires.stands
+    c.requires.order in
+    record { directory = r.0; stands = r.1.0; free = r.1.1.0; order = r.1.1.1.0; few = r.1.1.1.1 }
+
+pub overflow_add-result : goal.overflow_add-result
+overflow_add-result c =
+    omega (arith, open_room _ _ _ _ c.requires.valid c.requires.free, c.requires.valid.wide)
+
+pub returns : goal.returns
+unfolding base_of
+returns c =
+    let r = put_left _ _ _ _ _ _ _ _ _ _ _ c.requires.valid c.requires.free c.requires.small c.requires.whole c.open_payload.ensures.opened _ _
+    c.requires.stands (refl, (refl, refl)) _ c.put_cell.ensures.put in
+    record { left = r.0; content = r.1 }

@@ -1,0 +1,13 @@
+-- `store::scan::units_in` meets its contract.
+-- Assumes nothing.
+use borrow.Author.Rules.{rules}
+use Rattle.types.specs.Units.{units_in}
+use Rattle.store.proofs.scan.units_in.Goals as goal
+
+pub returns-then-n-gt4096 : goal.returns-then-n-gt4096
+unfolding units_in
+returns-then-n-gt4096 c = search rules
+
+pub returns : goal.returns
+unfolding units_in
+returns c = search rules

@@ -1,0 +1,33 @@
+-- `versioned_data::edit::may_write` meets its contract.
+-- Assumes nothing.
+use native.Mathlib.Omega.{arith}
+use Rattle.versioned_data.proofs.RowEdits.{row_valid, row_there}
+use Rattle.versioned_data.proofs.EntryWrites.{content_room, content_few}
+use Rattle.versioned_data.proofs.EntryOperations.{is_row, may_absent, may_delta, may_higher}
+use Rattle.versioned_data.proofs.edit.may_write.Goals as goal
+
+pub returns-in-Absent : goal.returns-in-Absent
+returns-in-Absent c =
+    record { may = may_absent _ _ _ _ _ c.in-Absent.is }
+
+pub marks_at-m-requires : goal.marks_at-m-requires
+marks_at-m-requires c =
+    record { valid = row_valid _ c.requires.valid _ c.units-n.ensures.units _ _ (is_row _ _ c.requires.row _ _ c.in-There.is); there = row_there _ c.requires.valid _ c.units-n.ensures.units _ _ (is_row _ _ c.requires.row _ _ c.in-There.is) }
+
+pub returns-then-m-ne-WRITE : goal.returns-then-m-ne-WRITE
+returns-then-m-ne-WRITE c =
+    record { may = may_delta _ _ _ _ c.requires.valid _ c.units-n.ensures.units (is_row _ _ c.requires.row _ _ c.in-There.is) c.in-There.is _ c.marks_at-m.ensures.marks _ c.if-m-ne-WRITE.true }
+
+pub content_at-b-requires : goal.content_at-b-requires
+content_at-b-requires c =
+    record { valid = row_valid _ c.requires.valid _ c.units-n.ensures.units _ _ (is_row _ _ c.requires.row _ _ c.in-There.is); there = row_there _ c.requires.valid _ c.units-n.ensures.units _ _ (is_row _ _ c.requires.row _ _ c.in-There.is) }
+
+pub offset_bounds-s-b : goal.offset_bounds-s-b
+offset_bounds-s-b c = record { fits = omega (arith, content_few _ c.requires.valid _ c.units-n.ensures.units _ _ (is_row _ _ c.requires.row _ _ c.in-There.is) _ c.content_at-b.ensures.content) }
+
+pub bounds-s-b : goal.bounds-s-b
+bounds-s-b c = omega (arith, content_room _ c.requires.valid _ c.units-n.ensures.units _ _ (is_row _ _ c.requires.row _ _ c.in-There.is) _ c.content_at-b.ensures.content)
+
+pub returns-in-There : goal.returns-in-There
+returns-in-There c =
+    record { may = may_higher _ _ _ _ c.requires.valid _ c.units-n.ensures.units (is_row _ _ c.requires.row _ _ c.in-There.is) c.in-There.is _ c.marks_at-m.ensures.marks _ c.if-m-ne-WRITE.false _ c.content_at-b.ensures.content }

@@ -1,0 +1,35 @@
+-- `versioned_data::materialize::record_delta_shortcut` meets its contract.
+-- Assumes nothing.
+use native.Mathlib.Omega.{arith}
+use Rattle.versioned_data.proofs.RowEdits.{row_valid, row_there, then_valid, then_there, then_part}
+use Rattle.versioned_data.proofs.EntryWrites.{content_room, content_few}
+use Rattle.versioned_data.proofs.ShortcutWords.{shortcut_none, shortcut_few, shortcut_rewritten, shortcut_put}
+use Rattle.versioned_data.proofs.materialize.record_delta_shortcut.Goals as goal
+
+pub marks_at-m-requires : goal.marks_at-m-requires
+marks_at-m-requires c =
+    record { valid = row_valid _ c.requires.valid _ c.units-n.ensures.units _ _ c.requires.row; there = row_there _ c.requires.valid _ c.units-n.ensures.units _ _ c.requires.row }
+
+pub returns-then-m-eq-WRITE : goal.returns-then-m-eq-WRITE
+returns-then-m-eq-WRITE c =
+    record { recorded = shortcut_none _ c.requires.valid _ c.units-n.ensures.units _ _ c.requires.row _ c.marks_at-m.ensures.marks _ c.if-m-eq-WRITE.true }
+
+pub content_at-b-requires : goal.content_at-b-requires
+content_at-b-requires c =
+    record { valid = row_valid _ c.requires.valid _ c.units-n.ensures.units _ _ c.requires.row; there = row_there _ c.requires.valid _ c.units-n.ensures.units _ _ c.requires.row }
+
+pub overflow_add-b : goal.overflow_add-b
+overflow_add-b c = record { fits = omega (arith, content_few _ c.requires.valid _ c.units-n.ensures.units _ _ c.requires.row _ c.content_at-b.ensures.content) }
+
+pub write-requires : goal.write-requires
+write-requires c =
+    record { fits = omega (arith, content_room _ c.requires.valid _ c.units-n.ensures.units _ _ c.requires.row _ c.content_at-b.ensures.content) }
+
+pub set_marks-requires : goal.set_marks-requires
+set_marks-requires c =
+    let w = shortcut_rewritten _ c.requires.valid _ c.units-n.ensures.units _ _ c.requires.row _ c.marks_at-m.ensures.marks _ c.if-m-eq-WRITE.false _ c.content_at-b.ensures.content _ c.write.ensures.written in
+    record { valid = then_valid _ c.requires.valid _ c.units-n.ensures.units _ _ c.requires.row _ w; there = then_there _ c.requires.valid _ c.units-n.ensures.units _ _ c.requires.row _ w; small = omega (arith, shortcut_few _ c.requires.valid _ c.units-n.ensures.units _ _ c.requires.row _ c.marks_at-m.ensures.marks 0); part = then_part _ c.requires.valid _ c.units-n.ensures.units _ _ c.requires.row _ w _ (shortcut_few _ c.requires.valid _ c.units-n.ensures.units _ _ c.requires.row _ c.marks_at-m.ensures.marks 0) }
+
+pub returns : goal.returns
+returns c =
+    record { recorded = shortcut_put _ c.requires.valid _ c.units-n.ensures.units _ _ c.requires.row _ c.marks_at-m.ensures.marks _ c.if-m-eq-WRITE.false _ c.content_at-b.ensures.content _ c.write.ensures.written _ c.set_marks.ensures.left }
