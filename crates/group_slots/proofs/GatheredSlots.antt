@@ -1,6 +1,6 @@
 -- Slots that pass the scan's tests are those of what is gathered from them, and that is fine.
 -- Assumes nothing.
-use mathlib.Core.Path.{◌≡◌, refl, sym, ◌∙◌, ap₂}
+use mathlib.Core.Path.{◌≡◌, refl, sym, ◌∙◌, ap₂, subst}
 use mathlib.Core.Bool.{Bool, true, cond, not, ◌&&◌}
 use mathlib.Core.Logic.{inl, inr}
 use mathlib.Core.List.{List, [], ◌∷◌, ◌++◌, map, append_assoc}
@@ -16,7 +16,8 @@ use Rattle.slots.specs.Slots.{Slot, slot_width, is_whole, before, is_before, nei
 use Rattle.slots.proofs.StoreWords.{whole_length}
 use Rattle.slots.proofs.SlotOrder.{Earlier, before_told}
 use Rattle.slots.proofs.SlotCompares.{first_four}
-use Rattle.model.specs.Rows.{rising, is_above}
+use Rattle.model.specs.Rows.{Row, rising, is_above}
+use Rattle.model.specs.Group.{Update}
 use Rattle.model.specs.Fine.{is_word, rising_from, fine_member, fine_update, fine_updates, fine_committed, fine_group}
 use Rattle.model.proofs.Rows.{Over, above_tell, above_above}
 use Rattle.model.proofs.FineParts.{every_words}
@@ -174,9 +175,9 @@ module _ (u v : Slot) (vs : List Slot) (g : Gathered) (c : SlotComes u v) (r : R
     unfolding with_member every
     with_member_lem =
         record {
-          again = rw one_update (ap₂ (λ (x : Slot) (l : List Slot). x ∷ l) same r.again);
+          again = subst (λ (x : Row Update). map (member_slot x) (member_of v ∷ g.waiting) ++ (updates_slots g.updates ++ map committed_slot g.committed) ≡ v ∷ vs) (sym one_update) (ap₂ (λ (x : Slot) (l : List Slot). x ∷ l) same r.again);
           tags = member_tags;
-          members = rw u2 (and_both (fine_member (get_or v 2 0) (member_of v)) (every (fine_member (get_or v 2 0)) g.waiting) fine r.members);
+          members = subst (λ (k : ℕ). every (fine_member k) (member_of v ∷ g.waiting) ≡ true) (sym u2) (and_both (fine_member (get_or v 2 0) (member_of v)) (every (fine_member (get_or v 2 0)) g.waiting) fine r.members);
           alone = λ n. absurd (n u0);
           updates = r.updates;
           above = λ h. rw (u1, u2) (r.above h0);

@@ -9,7 +9,7 @@ use slots::search::{Found, find_slot, lower_bound};
 use types::index::ShiftedTxnIndex;
 
 // The slots of an update: where they begin or would, and how many they are, 0 where there is no such update.
-#[derive(Drop)]
+#[derive(Clone, Copy)]
 pub struct Run {
     pub at: usize,
     pub len: usize,

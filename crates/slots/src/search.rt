@@ -25,7 +25,7 @@ pub fn lower_bound(s: &[u32], a: u32, b: u32, c: u32, d: u32) -> usize
 }
 
 // Where a slot stands: its index, or where it would be inserted.
-#[derive(Drop)]
+#[derive(Clone, Copy)]
 pub enum Found {
     There(usize),
     Absent(usize),

@@ -22,7 +22,7 @@ use Rattle.types.specs.declared.value.ValueWithLayout.{ValueWithLayout}
 use Rattle.types.proofs.ValueLaws.{words_read}
 use Rattle.number.specs.Words.{AreWords}
 use Rattle.request.specs.Set.{Member}
-use Rattle.slots.specs.Slots.{Slot, slot_width, slot_at, held, encode, is_whole, written, padded}
+use Rattle.slots.specs.Slots.{Slot, slot_width, slot_at, encode, is_whole, written, padded}
 use Rattle.types.specs.Units.{units_in}
 use Rattle.slots.specs.declared.search.Found.{Found}
 use Rattle.slots.specs.declared.search.Found.TheVariants.{There, Absent}

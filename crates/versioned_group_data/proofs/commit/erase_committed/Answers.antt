@@ -1,0 +1,23 @@
+-- `versioned_group_data::commit::erase_committed` meets its contract.
+-- Assumes nothing.
+use native.Mathlib.Omega.{arith}
+use Rattle.group_slots.proofs.GroupHolding.{packed_valid}
+use Rattle.versioned_group_data.proofs.CommittedEdits.{erase_room, erase_some, erase_none}
+use Rattle.versioned_group_data.proofs.commit.erase_committed.Goals as goal
+
+pub used-n-requires : goal.used-n-requires
+used-n-requires c =
+    record { packed = packed_valid _ c.requires.valid }
+
+pub close_slots-requires : goal.close_slots-requires
+close_slots-requires c =
+    let h = erase_room _ c.requires.valid _ _ _ c.find_committed.ensures.found _ c.in-There.is _ c.used-n.ensures.used in
+    record { order = omega (arith, h.0); inside = omega (arith, h.1) }
+
+pub returns-in-There : goal.returns-in-There
+returns-in-There c =
+    record { erased = erase_some _ c.requires.valid _ _ _ c.find_committed.ensures.found _ c.in-There.is _ c.used-n.ensures.used _ c.close_slots.ensures.closed }
+
+pub returns-in-Absent : goal.returns-in-Absent
+returns-in-Absent c =
+    record { erased = erase_none _ c.requires.valid _ _ _ c.find_committed.ensures.found _ c.in-Absent.is }

@@ -1,0 +1,43 @@
+-- `versioned_group_data::commit::try_commit` meets its contract.
+-- Assumes nothing.
+use mathlib.Core.Path.{refl}
+use native.Mathlib.Omega.{arith}
+use lib.ListN.{length}
+use Rattle.types.specs.Units.{units_in}
+use Rattle.versioned_group_data.proofs.CommitTried.{growth_small, deletions_few, tried_refused, tried_full, tried_fits, tried_done}
+use Rattle.group_slots.proofs.GroupHolding.{packed_valid}
+use Rattle.slots.proofs.StoreEncoding.{held_fits}
+use Rattle.slots.proofs.StoreWords.{slots_few}
+use Rattle.versioned_group_data.proofs.commit.try_commit.Goals as goal
+
+pub returns-then-not-growth : goal.returns-then-not-growth
+returns-then-not-growth c =
+    record { tried = tried_refused _ c.requires.valid _ _ c.requires.members _ _ c.growth_of-growth.ensures.growth c.if-not-growth.true }
+
+pub used-requires : goal.used-requires
+used-requires c =
+    record { packed = packed_valid _ c.requires.valid }
+
+pub overflow_add-held : goal.overflow_add-held
+overflow_add-held c =
+    record { fits = omega (arith, (growth_small _ c.requires.valid _ _ c.requires.members c.args.more _ c.growth_of-growth.ensures.growth).0, slots_few (length c.args.s.now), held_fits c.args.s.now, c.used.ensures.used) }
+
+pub overflow_add-held-2 : goal.overflow_add-held-2
+overflow_add-held-2 c =
+    record { fits = omega (arith, (growth_small _ c.requires.valid _ _ c.requires.members c.args.more _ c.growth_of-growth.ensures.growth).0, slots_few (length c.args.s.now), held_fits c.args.s.now, c.used.ensures.used, c.requires.few) }
+
+pub overflow_sub-held : goal.overflow_sub-held
+overflow_sub-held c =
+    deletions_few _ c.requires.valid _ _ c.requires.members c.args.more _ c.growth_of-growth.ensures.growth c.if-not-growth.false (units_in (length c.args.s.now)) _ refl c.used.ensures.used
+
+pub returns-then-lack-ne0 : goal.returns-then-lack-ne0
+returns-then-lack-ne0 c =
+    record { tried = tried_full _ c.requires.valid _ _ c.requires.members c.args.more _ c.growth_of-growth.ensures.growth c.if-not-growth.false _ _ c.slot_count.ensures.slots c.used.ensures.used _ c.lack_of-lack.ensures.lack c.if-lack-ne0.true }
+
+pub commit-requires : goal.commit-requires
+commit-requires c =
+    record { valid = c.requires.valid; inside = c.requires.inside; members = c.requires.members; fits = tried_fits _ c.requires.valid _ _ c.requires.members c.args.more _ c.growth_of-growth.ensures.growth c.if-not-growth.false _ _ c.slot_count.ensures.slots c.used.ensures.used _ c.lack_of-lack.ensures.lack c.if-lack-ne0.false }
+
+pub returns : goal.returns
+returns c =
+    record { tried = tried_done _ c.requires.valid _ _ c.requires.members c.args.more _ c.growth_of-growth.ensures.growth c.if-not-growth.false _ _ c.slot_count.ensures.slots c.used.ensures.used _ c.lack_of-lack.ensures.lack c.if-lack-ne0.false _ c.commit.ensures.committed }

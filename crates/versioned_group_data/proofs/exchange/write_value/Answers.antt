@@ -1,0 +1,21 @@
+-- `versioned_group_data::exchange::write_value` meets its contract.
+-- Assumes nothing.
+use native.Mathlib.Omega.{arith}
+use Rattle.versioned_group_data.proofs.BaseExchanges.{slot_room, value_copied}
+use Rattle.versioned_group_data.proofs.exchange.write_value.Goals as goal
+
+pub overflow_mul-i : goal.overflow_mul-i
+overflow_mul-i c =
+    record { fits = omega (arith, (slot_room c.args.i _ c.requires.slot).0) }
+
+pub overflow_add-i : goal.overflow_add-i
+overflow_add-i c =
+    record { fits = omega (arith, (slot_room c.args.i _ c.requires.slot).0) }
+
+pub copy_words-requires : goal.copy_words-requires
+copy_words-requires c =
+    record { target = omega (arith, (slot_room c.args.i _ c.requires.slot).1); source = c.requires.inside }
+
+pub returns : goal.returns
+returns c =
+    record { written = value_copied _ _ _ _ _ c.requires.slot c.copy_words.ensures.copied }

@@ -1,0 +1,19 @@
+-- `versioned_group_data::update::writes_outside` meets its contract: the tags that are left decide.
+-- Assumes nothing.
+use mathlib.Core.Path.{◌≡◌}
+use mathlib.Core.List.{[]}
+use lib.ListN.{length}
+use Rattle.types.specs.Index.{word_of}
+use Rattle.request.specs.Set.{tags_of, members_of}
+use Rattle.model.specs.Rows.{find}
+use Rattle.model.specs.Group.{outside, members_in}
+use Rattle.group_slots.specs.Layout.{groups_in}
+use Rattle.versioned_group_data.proofs.update.writes_outside.Given as goal
+
+abbrev pub invariant-loop-place : goal.invariant-loop-place
+invariant-loop-place l =
+    outside (members_of (tags_of l.rest.low l.rest.high) []) (members_in (find l.key (word_of l.place) (groups_in l.s).updates))
+    ≡ outside (members_of (tags_of l.initial.rest.low l.initial.rest.high) []) (members_in (find l.key (word_of l.place) (groups_in l.s).updates))
+
+abbrev pub decreases-loop-place : goal.decreases-loop-place
+decreases-loop-place l = length (tags_of l.rest.low l.rest.high)
