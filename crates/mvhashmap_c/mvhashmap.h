@@ -1,5 +1,5 @@
 /* A multi-version store for Block-STM, proved: the call over two stores of the caller's own.
- * `rt staticlib mvhashmap_c` writes the library, target/staticlib/libmvhashmap_c.a (x86-64). The
+ * `rt lib` in this folder writes the library, out/libmvhashmap_c.a (x86-64). The
  * words of requests and answers are in the repository's README, "Words". */
 #ifndef MVHASHMAP_H
 #define MVHASHMAP_H

@@ -18,7 +18,7 @@ use Rattle.versioned_data.proofs.WalkSteps.{versioned_is}
 use Rattle.versioned_group_data.specs.Ruled.{answer_in}
 use Rattle.types.specs.declared.output.MVDataOutput.{MVDataOutput}
 use Rattle.model.specs.Rows.{find, down_from, Edit}
-use Rattle.model.specs.Data.{Entry, Ruling, versioned, versioned_answer, read_of, fetch_data, materialize_delta}
+use Rattle.model.specs.Data.{Entry, Ruling, versioned_answer, read_of, fetch_data, materialize_delta}
 use Rattle.model.specs.Model.{read_data, edit_data}
 use Rattle.model.proofs.ReadFacts.{read_of_fine}
 use Rattle.model.proofs.FineEntries.{fine_down_from}

@@ -12,11 +12,11 @@ use Rattle.lists.proofs.Bools.{and_both}
 use Rattle.types.specs.Units.{units_in}
 use Rattle.types.proofs.UnitLaws.{lack_test}
 use Rattle.request.specs.Request.{request_of}
-use Rattle.model.specs.Rows.{Row, find, down_from, Edit, edited}
-use Rattle.model.specs.Data.{Entry, Ruling, refuse, accept}
+use Rattle.model.specs.Rows.{find, Edit, edited}
+use Rattle.model.specs.Data.{Ruling, refuse, accept}
 use Rattle.model.specs.Group.{Update, Committed, Commits}
-use Rattle.model.specs.Model.{Model, Work, edit_data, edit_group, commit_group, ruled, with_entries, with_updates, with_commits, perform, empty}
-use Rattle.model.specs.Fine.{fine_entries, fine_updates, fine_group, fine}
+use Rattle.model.specs.Model.{Model, Work, edit_group, commit_group, ruled, with_updates, with_commits, perform, empty}
+use Rattle.model.specs.Fine.{fine_updates, fine_group, fine}
 use Rattle.model.proofs.FineModel.{empty_fine, fine_entries_lem, fine_updates_lem, fine_committed_lem, fine_tell}
 use Rattle.model.proofs.RuleFacts.{accepts}
 use Rattle.model.proofs.RequestFacts.{request_facts}

@@ -1,4 +1,6 @@
 // The call over both stores.
+#![tactic(auto)]
+
 pub mod answer;
 pub mod call;
 pub mod data;

@@ -1,4 +1,6 @@
-// The call for C and Rust, under plain names: `rt staticlib mvhashmap_c` builds it, mvhashmap.h declares it.
+// The call for C and Rust, under plain names: `rt lib` builds it, mvhashmap.h declares it.
+#![tactic(auto)]
+
 ghost use Rattle.std.specs.Prelude.{◌≡◌, true};
 ghost use Rattle.mvhashmap.specs.Call.{stores, lent, sound, Calls};
 

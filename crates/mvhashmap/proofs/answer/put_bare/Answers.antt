@@ -1,0 +1,8 @@
+-- `mvhashmap::answer::put_bare` meets its contract.
+-- Assumes nothing.
+use Rattle.mvhashmap.proofs.AnswerPuts.{put_bare_lem}
+use Rattle.mvhashmap.proofs.answer.put_bare.Goals as goal
+
+pub returns : goal.returns
+returns c =
+    record { put = put_bare_lem _ _ _ c.requires.room c.put_head.ensures.put }
