@@ -7,6 +7,7 @@ mod WholeLaws
 mod StateLaws
 mod TurnCalls
 mod TurnSteps
+mod MovedLaws
 mod TurnAnswers
 mod TurnPromises
 mod WholeEnds

@@ -1,13 +1,15 @@
 -- Laws of a whole run: its turns, from the start on, give what it promises.
-use Rattle.std.proofs.Common.{◌≡◌, ℕ, ◌+◌, ◌%◌, ◌^◌, ◌≤◌, Bool, true, false, List, [], ◌++◌, length, sym, refl, ap, ◌∙◌, subst, append-nil, arith, lit≤}
+use Rattle.std.proofs.Common.{◌≡◌, ℕ, ◌+◌, ◌%◌, ◌^◌, ◌≤◌, Bool, true, false, List, [], ◌++◌, length, take, sym, refl, ap, ◌∙◌, subst, append-nil, arith, lit≤}
+use Rattle.std.specs.declared.option.Option.{Option}
 use Rattle.lists.proofs.Bools.{true_not_false}
 use Rattle.mvhashmap.specs.Call.{View}
 use Rattle.history.specs.Whole.{requests_in, lines_of, view_after}
 use Rattle.history.specs.State.{unread, emptied, start}
 use Rattle.history.specs.Turn.{lines_ahead, view_ahead, Turned}
 use Rattle.history.specs.Ran.{Ran}
+use Rattle.history.specs.Moved.{Handed, TurnedBy, RanBy}
 use Rattle.history.specs.declared.state.State.{State}
-use Rattle.history.proofs.TurnSteps.{turned_then, turned_written}
+use Rattle.history.proofs.MovedLaws.{by_then, by_written}
 
 -- At the start nothing waits and nothing is unread.
 start_lines : (b : List ℕ) (l : View) (o rest : List ℕ) → lines_ahead start b l o rest ≡ lines_of (requests_in rest) l
@@ -40,7 +42,7 @@ module _ (b : List ℕ) (l : View) (o : List ℕ) (r : State) (c : List ℕ) (m 
   all_view : (rest : List ℕ) → (r.over ≡ true → rest ≡ []) → view_after (requests_in (x.read ++ rest)) l ≡ view_ahead r c m rest
   all_view rest h = sym (start_view b l (x.read ++ rest)) ∙ x.view rest h
 
-  ran : (r.failed ≡ false → (r.stop ≡ true) × (r.put ≡ 0)) → Ran l r m
+  unfoldable ran : (r.failed ≡ false → (r.stop ≡ true) × (r.put ≡ 0)) → Ran l r m
   ran done =
       record {
         read = x.read;
@@ -55,11 +57,18 @@ module _ (b : List ℕ) (l : View) (o : List ℕ) (r : State) (c : List ℕ) (m 
         front = λ rest h. (lines_ahead r c m p rest, all_lines rest h);
       }
 
-  pub ran_failed : r.failed ≡ true → Ran l r m
-  ran_failed e = ran (λ f. true_not_false r.failed e f)
+module _ (a d u w : Option (List ℕ)) (b : List ℕ) (l : View) (o : List ℕ) where
+  ran_by : (r : State) (c : List ℕ) (m : View) (p : List ℕ) → TurnedBy a d u w start b l o r c m p → (r.failed ≡ false → (r.stop ≡ true) × (r.put ≡ 0))
+      → RanBy a d u w l r m
+  unfolding ran
+  ran_by r c m p x done = record { ran = ran b l o r c m p x.turned done; moved = x.moved }
+
+  pub ran_failed : (r : State) (c : List ℕ) (m : View) (p : List ℕ) → TurnedBy a d u w start b l o r c m p → r.failed ≡ true → RanBy a d u w l r m
+  ran_failed r c m p x e = ran_by r c m p x (λ f. true_not_false r.failed e f)
 
 -- It stopped, and what waits then is written.
-module _ (b : List ℕ) (l : View) (o : List ℕ) (s : State) (c : List ℕ) (m : View) (p : List ℕ) (x : Turned start b l o s c m p) where
+module _ (a d u v w : Option (List ℕ)) (b : List ℕ) (l : View) (o : List ℕ) (s : State) (c : List ℕ) (m : View) (p : List ℕ)
+    (x : TurnedBy a d u v start b l o s c m p) where
   end_stop : (failed : Bool) → (emptied s failed).stop ≡ s.stop
   unfolding emptied
   end_stop failed = refl
@@ -68,11 +77,12 @@ module _ (b : List ℕ) (l : View) (o : List ℕ) (s : State) (c : List ℕ) (m 
   unfolding emptied
   end_put failed = refl
 
-  pub ran_stopped : (r : State) → s.put ≤ length p → s.stop ≡ true → r ≡ emptied s r.failed → Ran l r m
-  ran_stopped r h e f = subst (λ (k : State). Ran l k m) (sym f) (done r.failed)
+  pub ran_stopped : (r : State) → s.put ≤ length p → s.stop ≡ true → s.failed ≡ false → r ≡ emptied s r.failed → Handed v w (take s.put p) r.failed
+      → RanBy a d u w l r m
+  ran_stopped r h e goes f k = subst (λ (t : State). RanBy a d u w l t m) (sym f) (done r.failed k)
     where
-      done : (failed : Bool) → Ran l (emptied s failed) m
-      done failed =
-          ran b l o (emptied s failed) c m p
-          (turned_then start b l o s c m p (emptied s failed) c m p x (turned_written s c m p failed h))
-          (λ k. (end_stop failed ∙ e, end_put failed))
+      done : (failed : Bool) → Handed v w (take s.put p) failed → RanBy a d u w l (emptied s failed) m
+      done failed k =
+          ran_by a d u w b l o (emptied s failed) c m p
+          (by_then a d d u v w start b l o s c m p (emptied s failed) c m p x goes (by_written d v w s c m p failed h k))
+          (λ f. (end_stop failed ∙ e, end_put failed))

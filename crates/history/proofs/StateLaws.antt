@@ -1,5 +1,7 @@
 -- Laws of the state: what is unread, what reading on and writing make of it, and that each of them lowers its budget.
-use Rattle.std.proofs.Common.{◌≡◌, ℕ, ◌+◌, ◌-◌, ◌*◌, ◌%◌, ◌^◌, ◌<◌, ◌≤◌, min, Bool, true, false, cond, not, ◌||◌, eqb, List, ◌++◌, length, take, drop, sym, refl, ap, ◌∙◌, arith, length-drop, length-take, length-take-le, eqb-true}
+use Rattle.std.proofs.Common.{◌≡◌, ℕ, ◌+◌, ◌-◌, ◌*◌, ◌%◌, ◌^◌, ◌<◌, ◌≤◌, min, Bool, true, false, cond, not, ◌||◌, eqb, List, ◌++◌, length, take, drop, sym, refl, ap, ◌∙◌, subst, arith, length-drop, length-take, length-take-le, drop_at, eqb-true}
+use Rattle.std.specs.declared.option.Option.{Option}
+use Rattle.std.specs.Io.KnownBytes.{Consumes}
 use lib.Seq.{paste, take-append-add, take-paste, length-paste}
 use borrow.Author.Tests.{eqb-false, not-true, not-false}
 use Rattle.lists.proofs.Bools.{never}
@@ -104,6 +106,20 @@ module _ (s : State) (b moved m : List ℕ) (n : ℕ) (within : Within (length b
     where
       brought : n ≡ length (take n m)
       brought = sym (length-take-le n m few)
+
+  -- what follows them is what a reader gave
+  pub read_gives : (p q : Option (List ℕ)) → Consumes p q (take n m)
+      → Consumes p q
+      (drop left
+      (unread (record { at = 0; end = left + n; put = s.put; got = s.got + n; sent = s.sent; over = eqb n 0; stop = s.stop; failed = s.failed })
+      (take left moved ++ m)))
+  unfolding unread
+  read_gives p q h = subst (Consumes p q) (sym last) h
+    where
+      last : drop left (take (left + n - 0) (drop 0 (take left moved ++ m))) ≡ take n m
+      last =
+          ap (λ (l : List ℕ). drop left l) follows
+          ∙ drop_at (take left (drop s.at b)) (take n m) left (length-take-le left (drop s.at b) inside)
 
 -- ---- budgets
 

@@ -1,5 +1,6 @@
 -- Laws of a turn that answers: the next request is that of all the input to come, and its line follows those that wait.
-use Rattle.std.proofs.Common.{◌≡◌, ℕ, ◌+◌, ◌-◌, ◌*◌, ◌^◌, ◌<◌, ◌≤◌, Bool, true, false, cond, ◌||◌, eqb, List, [], ◌++◌, length, take, drop, sym, refl, ap, ◌∙◌, append_assoc, append-nil, arith, length-append, length-drop, length-take-le, drop-drop, take-add, drop_at, eq-eqb, ne_eqb, eqb-true}
+use Rattle.std.proofs.Common.{None, ◌≡◌, ℕ, ◌+◌, ◌-◌, ◌*◌, ◌^◌, ◌<◌, ◌≤◌, Bool, true, false, cond, ◌||◌, eqb, List, [], ◌++◌, length, take, drop, sym, refl, ap, ◌∙◌, append_assoc, append-nil, arith, length-append, length-drop, length-take-le, drop-drop, take-add, drop_at, eq-eqb, ne_eqb, eqb-true}
+use Rattle.std.specs.declared.option.Option.{Option}
 use lib.Seq.{sets, sets-eq, length-sets, drop-append-le, take-append-add}
 use borrow.Author.Tests.{eqb-false}
 use Rattle.lists.proofs.Bools.{never}
@@ -11,6 +12,7 @@ use Rattle.history.specs.Line.{line_of}
 use Rattle.history.specs.Whole.{requests_in, lines_of, view_after}
 use Rattle.history.specs.State.{Within, unread, budget}
 use Rattle.history.specs.Turn.{line_for, after, Answered, lines_ahead, view_ahead, Turned}
+use Rattle.history.specs.Moved.{TurnedBy}
 use Rattle.history.specs.declared.state.State.{State}
 use Rattle.history.proofs.InputRequests.{request_fits, request_none}
 use Rattle.history.proofs.InputDecided.{decided_few, request_in_decided}
@@ -18,6 +20,7 @@ use Rattle.history.proofs.WholeLaws.{lines_of_none, view_after_none, lines_of_ne
 use Rattle.history.proofs.StateLaws.{length_unread, less_answered}
 use Rattle.history.proofs.TurnCalls.{call_of_nothing}
 use Rattle.history.proofs.TurnSteps.{none_read, none_sent}
+use Rattle.history.proofs.MovedLaws.{moved_none}
 
 settled_request : (over : Bool) (u rest : List ℕ) → over || decided u ≡ true → (over ≡ true → rest ≡ []) → request_in (u ++ rest) ≡ request_in u
 settled_request true u rest e h = ap (λ (k : List ℕ). request_in (u ++ k)) (h refl) ∙ ap request_in (append-nil u)
@@ -160,7 +163,7 @@ module _ (s : State) (b : List ℕ) (l : View) (o : List ℕ) (within : Within (
           ∙ view_next rest h
           ∙ ap (λ (k : List ℕ). cond (eqb (length t) 0) left (view_after (requests_in (k ++ rest)) left)) (sym (unread_after (line_for u l)))
 
-    turned_after : Turned s b l o (after s u (line_for u l)) b left (sets o s.put (line_for u l))
+    unfoldable turned_after : Turned s b l o (after s u (line_for u l)) b left (sets o s.put (line_for u l))
     unfolding after
     turned_after =
         record {
@@ -173,8 +176,12 @@ module _ (s : State) (b : List ℕ) (l : View) (o : List ℕ) (within : Within (
           view = after_view;
         }
 
-  pub turned_answered : (r : State) (l' : View) (p : List ℕ) → r.put ≤ length p → Answered s u l o r l' p → Turned s b l o r b l' p
-  turned_answered r l' p h x = rw (x.state, x.view, x.line) (turned_after fits)
+    by_after : (a w : Option (List ℕ)) → TurnedBy a a w w s b l o (after s u (line_for u l)) b left (sets o s.put (line_for u l))
+    unfolding turned_after
+    by_after a w = record { turned = turned_after; moved = moved_none a w (after s u (line_for u l)).failed }
+
+  pub by_answered : (a w : Option (List ℕ)) (r : State) (l' : View) (p : List ℕ) → r.put ≤ length p → Answered s u l o r l' p → TurnedBy a a w w s b l o r b l' p
+  by_answered a w r l' p h x = rw (x.state, x.view, x.line) (by_after fits a w)
     where
       put_after : (after s u (line_for u l)).put ≡ s.put + length (line_for u l)
       put_after = after_put s u (line_for u l)
@@ -183,3 +190,6 @@ module _ (s : State) (b : List ℕ) (l : View) (o : List ℕ) (within : Within (
       fits =
           omega
           (arith, h, put_after, ap (λ (k : State). k.put) x.state, ap (λ (k : List ℕ). length k) x.line, length-sets o s.put (line_for u l))
+
+  pub turned_answered : (r : State) (l' : View) (p : List ℕ) → r.put ≤ length p → Answered s u l o r l' p → Turned s b l o r b l' p
+  turned_answered r l' p h x = (by_answered None None r l' p h x).turned

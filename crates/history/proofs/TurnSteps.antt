@@ -16,7 +16,7 @@ none_read n = omega arith
 pub none_sent : (n : ℕ) → n < 2 ^ 64 → n ≡ (n + 0) % 2 ^ 64
 none_sent n h = sym (mod-eq_of_lt h) ∙ ap (λ (k : ℕ). k % 2 ^ 64) (none_read n)
 
-pub turned_none : (s : State) (b : List ℕ) (l : View) (o : List ℕ) → Turned s b l o s b l o
+unfoldable pub turned_none : (s : State) (b : List ℕ) (l : View) (o : List ℕ) → Turned s b l o s b l o
 turned_none s b l o =
     record {
       read = [];
@@ -30,7 +30,7 @@ turned_none s b l o =
 
 module _ (s : State) (b : List ℕ) (l : View) (o : List ℕ) (r : State) (c : List ℕ) (m : View) (p : List ℕ) (t : State) (d : List ℕ) (n : View) (q : List ℕ)
     (x : Turned s b l o r c m p) (y : Turned r c m p t d n q) where
-  both_sent : s.sent < 2 ^ 64 → t.sent ≡ (s.sent + length (x.written ++ y.written)) % 2 ^ 64
+  pub both_sent : s.sent < 2 ^ 64 → t.sent ≡ (s.sent + length (x.written ++ y.written)) % 2 ^ 64
   both_sent h =
       let fits : r.sent < 2 ^ 64 = rw (x.sent h) (mod-lt (s.sent + length x.written) (lit≤ tt)) in
       let sum : s.sent + length x.written + length y.written ≡ s.sent + length (x.written ++ y.written) =
@@ -40,7 +40,7 @@ module _ (s : State) (b : List ℕ) (l : View) (o : List ℕ) (r : State) (c : L
       ∙ mod-add-mod (s.sent + length x.written) (2 ^ 64) (length y.written)
       ∙ ap (λ (k : ℕ). k % 2 ^ 64) sum
 
-  both_ended : s.over ≡ true → (x.read ++ y.read ≡ []) × (t.over ≡ true)
+  pub both_ended : s.over ≡ true → (x.read ++ y.read ≡ []) × (t.over ≡ true)
   both_ended e =
       let over : r.over ≡ true = (x.ended e).1 in
       (ap (λ (k : List ℕ). k ++ y.read) (x.ended e).0 ∙ (y.ended over).0, (y.ended over).1)
@@ -49,18 +49,18 @@ module _ (s : State) (b : List ℕ) (l : View) (o : List ℕ) (r : State) (c : L
     then_rest : r.over ≡ true → y.read ++ rest ≡ []
     then_rest e = ap (λ (k : List ℕ). k ++ rest) (y.ended e).0 ∙ h (y.ended e).1
 
-    both_lines : lines_ahead s b l o ((x.read ++ y.read) ++ rest) ≡ (x.written ++ y.written) ++ lines_ahead t d n q rest
+    pub both_lines : lines_ahead s b l o ((x.read ++ y.read) ++ rest) ≡ (x.written ++ y.written) ++ lines_ahead t d n q rest
     both_lines =
         ap (λ (k : List ℕ). lines_ahead s b l o k) (append_assoc x.read y.read rest)
         ∙ x.lines (y.read ++ rest) then_rest
         ∙ ap (λ (k : List ℕ). x.written ++ k) (y.lines rest h)
         ∙ sym (append_assoc x.written y.written (lines_ahead t d n q rest))
 
-    both_view : view_ahead s b l ((x.read ++ y.read) ++ rest) ≡ view_ahead t d n rest
+    pub both_view : view_ahead s b l ((x.read ++ y.read) ++ rest) ≡ view_ahead t d n rest
     both_view =
         ap (λ (k : List ℕ). view_ahead s b l k) (append_assoc x.read y.read rest) ∙ x.view (y.read ++ rest) then_rest ∙ y.view rest h
 
-  pub turned_then : Turned s b l o t d n q
+  unfoldable pub turned_then : Turned s b l o t d n q
   turned_then =
       record {
         read = x.read ++ y.read;
@@ -74,7 +74,7 @@ module _ (s : State) (b : List ℕ) (l : View) (o : List ℕ) (r : State) (c : L
 
 -- ---- what waits is written
 
-pub turned_written : (s : State) (b : List ℕ) (l : View) (o : List ℕ) (failed : Bool) → s.put ≤ length o → Turned s b l o (emptied s failed) b l o
+unfoldable pub turned_written : (s : State) (b : List ℕ) (l : View) (o : List ℕ) (failed : Bool) → s.put ≤ length o → Turned s b l o (emptied s failed) b l o
 unfolding lines_ahead view_ahead emptied unread
 turned_written s b l o failed h =
     record {
@@ -89,7 +89,7 @@ turned_written s b l o failed h =
 
 -- ---- no more bytes can be counted
 
-pub turned_gave_up : (s : State) (b : List ℕ) (l : View) (o : List ℕ) → Turned s b l o (gave_up s) b l o
+unfoldable pub turned_gave_up : (s : State) (b : List ℕ) (l : View) (o : List ℕ) → Turned s b l o (gave_up s) b l o
 unfolding lines_ahead view_ahead gave_up unread
 turned_gave_up s b l o =
     record {
@@ -105,11 +105,11 @@ turned_gave_up s b l o =
 -- ---- more is read
 
 module _ (s : State) (b : List ℕ) (l : View) (o : List ℕ) (r : State) (c : List ℕ) (goes_on_lem : s.over ≡ false) (x : ReadOn s b r c) where
-  got : r.got ≡ s.got + length x.more
+  pub got : r.got ≡ s.got + length x.more
   unfolding read_on
   got = ap (λ (t : State). t.got) x.state
 
-  sent : r.sent ≡ s.sent
+  pub sent : r.sent ≡ s.sent
   unfolding read_on
   sent = ap (λ (t : State). t.sent) x.state
 
@@ -124,20 +124,20 @@ module _ (s : State) (b : List ℕ) (l : View) (o : List ℕ) (r : State) (c : L
   more_first : (rest : List ℕ) → unread r c ++ rest ≡ unread s b ++ (x.more ++ rest)
   more_first rest = ap (λ (u : List ℕ). u ++ rest) x.follows ∙ append_assoc (unread s b) x.more rest
 
-  read_lines : (rest : List ℕ) → lines_ahead s b l o (x.more ++ rest) ≡ lines_ahead r c l o rest
+  pub read_lines : (rest : List ℕ) → lines_ahead s b l o (x.more ++ rest) ≡ lines_ahead r c l o rest
   unfolding lines_ahead
   read_lines rest =
       ap (λ (k : List ℕ). take s.put o ++ cond s.stop [] (lines_of (requests_in k) l)) (sym (more_first rest))
       ∙ ap (λ (n : ℕ). take n o ++ cond s.stop [] (lines_of (requests_in (unread r c ++ rest)) l)) (sym put)
       ∙ ap (λ (v : Bool). take r.put o ++ cond v [] (lines_of (requests_in (unread r c ++ rest)) l)) (sym stop)
 
-  read_view : (rest : List ℕ) → view_ahead s b l (x.more ++ rest) ≡ view_ahead r c l rest
+  pub read_view : (rest : List ℕ) → view_ahead s b l (x.more ++ rest) ≡ view_ahead r c l rest
   unfolding view_ahead
   read_view rest =
       ap (λ (k : List ℕ). cond s.stop l (view_after (requests_in k) l)) (sym (more_first rest))
       ∙ ap (λ (v : Bool). cond v l (view_after (requests_in (unread r c ++ rest)) l)) (sym stop)
 
-  pub turned_read : Turned s b l o r c l o
+  unfoldable pub turned_read : Turned s b l o r c l o
   turned_read =
       record {
         read = x.more;

@@ -4,3 +4,4 @@ pub mod Whole
 pub mod State
 pub mod Turn
 pub mod Ran
+pub mod Moved

@@ -1,4 +1,4 @@
-// The lines that are printed. The kit's `io::hex` prints small letters, so the digits are our own.
+// The lines that are printed. Digits are capitals, by a function of our own.
 ghost use Rattle.std.specs.Prelude.{◌≡◌, ◌+◌, ◌*◌, ◌<◌, ◌≤◌, length, slice_index};
 ghost use Rattle.std.proofs.lemmas.List.Edits.{sets};
 ghost use Rattle.types.specs.Response.{count_in, answer_width};

@@ -5,10 +5,12 @@ ghost use Rattle.request.specs.Table.{longest_count};
 ghost use Rattle.mvhashmap.specs.Call.{stores, lent, sound, view_of};
 ghost use Rattle.history.specs.State.{longest_request, longest_line, Within, unread, budget};
 ghost use Rattle.history.specs.Turn.{Answered, Turned};
+ghost use Rattle.history.specs.Moved.{TurnedBy};
 
 use super::state::{LINE, State};
 use super::{input, line, state};
 use mvhashmap::call;
+use std::io::{Read, Write};
 
 // Calls with the next request, and puts the line of what the call shows.
 fn answered(
@@ -62,7 +64,9 @@ fn answered(
 }
 
 // A line is written before the program waits for more input.
-pub fn turn(
+pub fn turn<R: Read, W: Write>(
+    reader: &mut R,
+    writer: &mut W,
     bytes: &mut [u8],
     words: &mut [u32],
     data: &mut [u32],
@@ -84,20 +88,21 @@ pub fn turn(
     ensures sound { sound (stores «data».new group.new) ≡ true }
     ensures less { budget result < budget s }
     ensures turned { Turned s bytes.old (view_of (lent «data».old group.old answer.old)) out.old result bytes.new (view_of (lent «data».new group.new answer.new)) out.new }
+    ensures moved { TurnedBy (R.remaining reader.old) (R.remaining reader.new) (W.contents writer.old) (W.contents writer.new) s bytes.old (view_of (lent «data».old group.old answer.old)) out.old result bytes.new (view_of (lent «data».new group.new answer.new)) out.new }
 {
     let put = s.put;
     let got = s.got;
     if out.len() - put < LINE {
-        return state::written(out, s);
+        return state::written(writer, out, s);
     }
     if !state::wants_more(bytes, s) {
         return answered(bytes, words, data, group, answer, out, s);
     }
     if put > 0 {
-        return state::written(out, s);
+        return state::written(writer, out, s);
     }
     if u64::MAX - got < bytes.len() as u64 {
         return state::gave_up(s);
     }
-    state::read_on(bytes, s)
+    state::read_on(reader, bytes, s)
 }
