@@ -1,5 +1,5 @@
 //! Finds or builds the proved library and links it: from the folder that MVHASHMAP_C_LIB names,
-//! or else from the repository's target/staticlib, where `rt staticlib mvhashmap_c` puts it.
+//! or else from the repository's crates/mvhashmap_c/out, where `rt lib` in crates/mvhashmap_c puts it.
 
 use std::env;
 use std::path::{Path, PathBuf};
@@ -36,22 +36,39 @@ fn given(folder: PathBuf) -> PathBuf {
 /// writes it; the proved sources are.
 fn built() -> PathBuf {
     let root = Path::new(&env::var_os("CARGO_MANIFEST_DIR").unwrap()).join("../..");
-    for source in ["crates", "crates.txt"] {
-        println!("cargo:rerun-if-changed={}", root.join(source).display());
+    let crates = root.join("crates");
+    println!("cargo:rerun-if-changed={}", root.join("crates.txt").display());
+    for source in sources(&crates) {
+        println!("cargo:rerun-if-changed={}", source.display());
     }
-    let said = Command::new("rt").args(["staticlib", LIBRARY]).current_dir(&root).output();
+    let crate_folder = crates.join(LIBRARY);
+    let said = Command::new("rt").arg("lib").current_dir(&crate_folder).output();
     match said {
-        Ok(said) if said.status.success() => root.join("target/staticlib"),
+        Ok(said) if said.status.success() => crate_folder.join("out"),
         Ok(said) => {
             let out = String::from_utf8_lossy(&said.stdout);
             let err = String::from_utf8_lossy(&said.stderr);
-            fail(&format!("`rt staticlib {LIBRARY}` failed ({}):\n{out}{err}", said.status))
+            fail(&format!("`rt lib` in crates/{LIBRARY} failed ({}):\n{out}{err}", said.status))
         }
         Err(error) => fail(&format!(
             "cannot run `rt` ({error}). The Rattle kit builds the proved library; without it, \
              set {FOLDER} to a folder that has lib{LIBRARY}.a"
         )),
     }
+}
+
+/// The proved sources: each crate's folders but out, which rt writes.
+fn sources(crates: &Path) -> Vec<PathBuf> {
+    let mut found = Vec::new();
+    for one in crates.read_dir().into_iter().flatten().flatten() {
+        for name in ["src", "specs", "proofs"] {
+            let folder = one.path().join(name);
+            if folder.is_dir() {
+                found.push(folder);
+            }
+        }
+    }
+    found
 }
 
 fn fail(message: &str) -> ! {
