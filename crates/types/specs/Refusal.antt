@@ -1,6 +1,8 @@
 -- 01's table of refusals: a name for each number, and the table in order of precedence. "The lowest number that applies is given": where a later
 -- number joins the table, its place here says before which others it is given.
-use Rattle.std.specs.Prelude.{Bool, false, ◌||◌, List, [], ◌∷◌, ◌++◌, ℕ, eqb}
+use Rattle.std.specs.Prelude.{Bool, false, ◌||◌, List, [], ◌∷◌, ◌++◌, ℕ, eqb, Result, Ok, Err}
+use Rattle.types.specs.declared.refusal.Refusal.{Refusal}
+use Rattle.types.specs.declared.refusal.Refusal.TheVariants.{AnswerTooShort, WrongCount, BadField, IndexTooHigh, DamagedStore, NothingThere, IncarnationNotHigher, BaseDiffers, LayoutUnderDelta, NoNumberUnderDelta, CommitRule, NothingToExchange, NotMaterializable, UnitsExhausted}
 
 -- "slice": "answer under 451 words"
 abbrev pub answer_too_short : ℕ
@@ -57,6 +59,28 @@ not_materializable = 13
 -- "units": "more units after the ticket than the store has"
 abbrev pub units_exhausted : ℕ
 units_exhausted = 14
+
+-- The number of each refusal of the code.
+abbrev pub refusal_number : Refusal → ℕ
+refusal_number AnswerTooShort = answer_too_short
+refusal_number WrongCount = wrong_count
+refusal_number BadField = bad_field
+refusal_number IndexTooHigh = index_too_high
+refusal_number DamagedStore = damaged_store
+refusal_number NothingThere = nothing_there
+refusal_number IncarnationNotHigher = incarnation_not_higher
+refusal_number BaseDiffers = base_differs
+refusal_number LayoutUnderDelta = layout_under_delta
+refusal_number NoNumberUnderDelta = no_number_under_delta
+refusal_number CommitRule = commit_rule
+refusal_number NothingToExchange = nothing_to_exchange
+refusal_number NotMaterializable = not_materializable
+refusal_number UnitsExhausted = units_exhausted
+
+-- The number of a result: 0, or that of its refusal.
+abbrev pub result_number : {A : Type 0} → Result A Refusal → ℕ
+result_number (Ok value) = 0
+result_number (Err refusal) = refusal_number refusal
 
 -- The table by 01's places.
 unfoldable pub of_slice : List ℕ
