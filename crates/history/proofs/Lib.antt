@@ -12,3 +12,4 @@ mod TurnAnswers
 mod TurnPromises
 mod WholeEnds
 mod RanLaws
+mod SessionLaws

@@ -1,0 +1,100 @@
+// The output: the lines that wait to be written.
+ghost use Rattle.std.specs.Prelude.{◌≡◌, ◌+◌, ◌<◌, ◌≤◌, length, slice_index, take, is_err};
+ghost use Rattle.types.specs.Response.{count_in, answer_width};
+ghost use Rattle.history.specs.State.{longest_line};
+ghost use Rattle.history.specs.Moved.{Handed};
+
+use super::line;
+use std::io;
+use std::io::{ErrorKind, Write};
+use types::response::ANSWER_WIDTH;
+
+// The bytes of the longest line.
+pub const LINE: usize = 9 * ANSWER_WIDTH;
+
+// A block of the output, and how much of it was written.
+#[derive(Drop)]
+pub struct Output<const N: usize> {
+    bytes: [u8; N],
+    // Bytes that wait.
+    put: usize,
+    // Bytes that were handed to write, modulo 2^64.
+    sent: u64,
+    ghost within: { put ≤ length bytes },
+    ghost room: { longest_line ≤ N },
+}
+
+impl<const N: usize> Output<N> {
+    ghost use Rattle.std.specs.Prelude.{false};
+    ghost use Rattle.mvhashmap.specs.Run.{shown};
+    ghost use Rattle.history.specs.Line.{line_of};
+    ghost use Rattle.history.specs.State.{start, emptied};
+    ghost use Rattle.history.specs.Writing.{output_state, Puts};
+
+    pub fn new() -> Self
+        requires room { longest_line ≤ N }
+        ensures start { output_state result false ≡ start }
+    {
+        Output {
+            bytes: [0; N],
+            put: 0,
+            sent: 0,
+        }
+    }
+
+    // How many bytes wait.
+    pub fn waiting(&self) -> usize
+        ensures waiting { result ≡ self.now.put }
+    {
+        self.put
+    }
+
+    // How many more can wait.
+    pub fn room(&self) -> usize
+        ensures room { self.now.put + result ≡ N }
+    {
+        N - self.put
+    }
+
+    // Puts the line of what a call shows after those that wait.
+    pub fn put_line(&mut self, res: u32, answer: &[u32])
+        requires small { res < 100 }
+        requires whole { answer_width ≤ length answer.now }
+        requires few { res ≡ 0 → count_in (slice_index answer.now 0) < answer_width }
+        requires room { self.old.put + longest_line ≤ N }
+        ensures puts { Puts self.old self.new (line_of (shown res answer.now)) }
+    {
+        let put = self.put;
+        self.put = line::put(&mut self.bytes, put, res, answer);
+    }
+
+    // Writes what waits.
+    pub fn write_waiting<W: Write>(&mut self, writer: &mut W) -> io::Result<()>
+        ensures written { output_state self.new (is_err result) ≡ emptied (output_state self.old false) (is_err result) }
+        ensures kept { self.new.bytes ≡ self.old.bytes }
+        ensures handed { Handed (W.contents writer.old) (W.contents writer.new) (take self.old.put self.old.bytes) (is_err result) }
+    {
+        let waits = &self.bytes[..self.put];
+        let total = self.sent.wrapping_add(waits.len() as u64);
+        let written = write_all(writer, waits);
+        self.put = 0;
+        self.sent = total;
+        written
+    }
+}
+
+// Writes all of the bytes, or stops at the first write that fails or takes nothing.
+// Kept: std's `write_all` says nothing of what was taken before an error, and tries again after an interruption.
+pub fn write_all<W: Write>(to: &mut W, bytes: &[u8]) -> io::Result<()>
+    ensures handed { Handed (W.contents to.old) (W.contents to.new) bytes.now (is_err result) }
+{
+    let mut done = 0;
+    while done < bytes.len() {
+        let n = to.write(&bytes[done..])?;
+        if n == 0 {
+            return Err(ErrorKind::WriteZero.into());
+        }
+        done += n;
+    }
+    Ok(())
+}
