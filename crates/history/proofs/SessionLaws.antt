@@ -1,8 +1,8 @@
 -- Laws of a session's state: what its input and its output do, it does.
-use Rattle.std.proofs.Common.{◌≡◌, ℕ, ◌+◌, ◌-◌, ◌*◌, ◌≤◌, Bool, false, List, length, drop, refl, sym, ap, ◌∙◌, subst}
+use Rattle.std.proofs.Common.{◌≡◌, ℕ, ◌+◌, Bool, false, List, drop, refl}
 use Rattle.std.specs.declared.option.Option.{Option}
 use Rattle.std.specs.Io.KnownBytes.{Consumes}
-use Rattle.history.specs.State.{State, Within, unread, wants_more, emptied, read_on, ReadOn}
+use Rattle.history.specs.State.{State, unread, wants_more, emptied, read_on, ReadOn}
 use Rattle.history.specs.Reading.{input_state, Uses}
 use Rattle.history.specs.Writing.{output_state, Puts}
 use Rattle.history.specs.declared.input.Input.{Input}

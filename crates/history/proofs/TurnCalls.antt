@@ -1,10 +1,9 @@
 -- Laws of the call that the next request makes, and of what it leaves.
-use Rattle.std.proofs.Common.{◌≡◌, ℕ, suc, ◌+◌, ◌-◌, ◌*◌, ◌<◌, ◌≤◌, Bool, true, false, ◌||◌, eqb, ltb, leb, List, [], ◌∷◌, length, get_or, take, drop, sym, refl, ap, ◌∙◌, subst, arith, ltb-true, le-ltb, eq-eqb, ne_eqb, eqb-true, leb-true}
+use Rattle.std.proofs.Common.{◌≡◌, ℕ, suc, ◌+◌, ◌-◌, ◌*◌, ◌<◌, ◌≤◌, Bool, true, false, ◌||◌, eqb, ltb, leb, List, [], ◌∷◌, length, get_or, take, sym, refl, ap, ◌∙◌, subst, arith, ltb-true, le-ltb, eq-eqb, ne_eqb, eqb-true, leb-true}
 use lib.Seq.{sets}
 use Rattle.lists.specs.Lists.{every}
 use Rattle.lists.proofs.Bools.{and_left, true_not_false}
 use Rattle.number.specs.Words.{AreWords}
-use Rattle.number.proofs.Digits.{words_take}
 use Rattle.types.specs.Refusal.{wrong_count, of_slice, of_request, of_store, of_entry, of_commit, of_materialize, of_units, of_rules, refusals, is_in, is_refusal, is_result}
 use Rattle.types.specs.Response.{count_in, answer_width}
 use Rattle.types.proofs.RefusalLaws.{is_in_every, refusal_nonzero}

@@ -1,13 +1,16 @@
 // The input: what is read and not yet used, and the request that it starts with.
-ghost use Rattle.std.specs.Prelude.{◌≡◌, suc, ◌+◌, ◌-◌, ◌^◌, ◌<◌, ◌≤◌, ◌↔◌, ◌++◌, length, drop, IsTrue};
+ghost use Rattle.std.specs.Prelude.{◌≡◌, suc, ◌+◌, ◌-◌, ◌^◌, ◌<◌, ◌≤◌, ◌↔◌, ◌++◌, length, drop, IsTrue, IfSome, IfNone};
 ghost use Rattle.request.specs.Table.{longest_count};
-ghost use Rattle.history.specs.Input.{request_in, decided};
+ghost use Rattle.history.specs.Input.{words_in, request_in, decided};
 ghost use Rattle.history.specs.State.{longest_request};
 
 use super::word;
 use request::table::LONGEST_COUNT;
 use std::io::Read;
 use types::response;
+
+// The words of the longest request.
+const LONGEST: usize = LONGEST_COUNT + 1;
 
 // A block of the input, and how much of it was read.
 #[derive(Drop)]
@@ -93,6 +96,17 @@ impl<const N: usize> Input<N> {
     }
 }
 
+// How many words the request has that the bytes start with, if its head is there.
+fn words_in(b: &[u8]) -> Option<usize>
+    ensures words { IfSome result (λ n. (4 ≤ length b.now) × (n ≡ words_in b.now)) }
+    ensures cut { IfNone result (length b.now < 4) }
+{
+    if b.len() < 4 {
+        return None;
+    }
+    Some(response::count_in(word::word_at(b, 0)) + 1)
+}
+
 // Puts the words of the request that the bytes start with at the front, and answers how many they
 // are: none if the head counts too many words or the end is cut.
 pub fn next(b: &[u8], words: &mut [u32]) -> usize
@@ -100,31 +114,21 @@ pub fn next(b: &[u8], words: &mut [u32]) -> usize
     ensures request { words.new ≡ request_in b.now ++ drop (length (request_in b.now)) words.old }
     ensures count { result ≡ length (request_in b.now) }
 {
-    if b.len() < 4 {
-        return 0;
+    match words_in(b) {
+        Some(n) if n <= LONGEST && 4 * n <= b.len() => {
+            word::load(b, words, n);
+            n
+        }
+        _ => 0,
     }
-    let count = response::count_in(word::word_at(b, 0));
-    if count > LONGEST_COUNT {
-        return 0;
-    }
-    let n = count + 1;
-    if b.len() < 4 * n {
-        return 0;
-    }
-    word::load(b, words, n);
-    n
 }
 
 // Whether the bytes decide the request that they start with, whatever follows them.
 pub fn decided(b: &[u8]) -> bool
     ensures decided { result ≡ decided b.now }
 {
-    if b.len() < 4 {
-        return false;
+    match words_in(b) {
+        Some(n) => n > LONGEST || 4 * n <= b.len(),
+        None => false,
     }
-    let count = response::count_in(word::word_at(b, 0));
-    if count <= LONGEST_COUNT {
-        return 4 * (count + 1) <= b.len();
-    }
-    true
 }

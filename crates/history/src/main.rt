@@ -3,7 +3,6 @@
 #![tactic(auto)]
 
 mod input;
-mod line;
 mod output;
 mod session;
 mod stores;

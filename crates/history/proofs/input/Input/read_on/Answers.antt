@@ -1,4 +1,4 @@
-use Rattle.std.proofs.Common.{length, sym, ap, subst, arith, rules, length-append}
+use Rattle.std.proofs.Common.{length, sym, subst, arith, rules, length-append}
 use Rattle.std.specs.Io.KnownBytes.{Consumes}
 use lib.Seq.{take-append-le}
 use Rattle.history.specs.State.{Within}

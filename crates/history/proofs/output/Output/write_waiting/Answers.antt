@@ -1,4 +1,4 @@
-use Rattle.std.proofs.Common.{false, refl, arith}
+use Rattle.std.proofs.Common.{false, refl}
 use Rattle.history.specs.Writing.{output_state}
 use Rattle.history.proofs.StateLaws.{written_is}
 use Rattle.history.proofs.output.Output.write_waiting.Goals as goal

@@ -1,12 +1,12 @@
-use Rattle.std.proofs.Common.{◌≡◌, ℕ, ◌*◌, ◌-◌, false, length, take, drop, ap, sym, subst, ◌∙◌, arith, rules, eqb-true, length-take}
+use Rattle.std.proofs.Common.{◌≡◌, ◌*◌, false, length, ap, sym, subst, ◌∙◌, arith, rules, eqb-true}
 use borrow.Author.Tests.{eqb-false}
 use Rattle.mvhashmap.specs.Call.{lent, view_of}
-use Rattle.history.specs.State.{State, Within, unread}
+use Rattle.history.specs.State.{Within, unread}
 use Rattle.history.specs.Turn.{Answered}
 use Rattle.history.specs.Session.{state_of}
-use Rattle.history.proofs.InputRequests.{Loads, request_fits}
+use Rattle.history.proofs.InputRequests.{Loads}
 use Rattle.history.proofs.SessionLaws.{unread_in, used_in}
-use Rattle.history.proofs.TurnCalls.{Served, answered_nothing, served, answered_request}
+use Rattle.history.proofs.TurnCalls.{answered_nothing, served, answered_request}
 use Rattle.history.proofs.session.Session.answer_next.Goals as goal
 
 pub returns-then-is_empty-clause-answered : goal.returns-then-is_empty-clause-answered

@@ -1,4 +1,4 @@
-use Rattle.std.proofs.Common.{◌≡◌, true, false, sym, refl, subst, arith}
+use Rattle.std.proofs.Common.{◌≡◌, true, false, sym, refl, subst}
 use Rattle.history.specs.State.{start}
 use Rattle.history.specs.Moved.{RanBy}
 use Rattle.history.specs.Session.{state_of, view_in}

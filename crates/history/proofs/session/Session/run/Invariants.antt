@@ -1,5 +1,5 @@
 -- The turns so far.
-use Rattle.std.proofs.Common.{◌≡◌, ◌≤◌, false, length}
+use Rattle.std.proofs.Common.{false}
 use Rattle.history.specs.Moved.{TurnedBy}
 use Rattle.history.specs.State.{budget}
 use Rattle.history.specs.Session.{state_of, view_in}
