@@ -1,11 +1,9 @@
 -- Laws of what reads and writes moved: nothing, one after the other, and at turns that write, give up or read on.
-use Rattle.std.proofs.Common.{None, Some, Result, Ok, Err, arith, ◌≡◌, ℕ, ◌+◌, ◌-◌, ◌≤◌, Bool, true, false, List, [], ◌++◌, length, take, drop, sym, refl, ap, ◌∙◌, subst, append_assoc, append-nil, take-append-drop, drop_of_length-le}
-use Rattle.std.specs.Io.KnownBytes.{Appends, Consumes, Keeps, ReadConsumes}
-use Rattle.std.specs.Io.{ReadsAtMost}
-use Rattle.std.specs.Result.{result_unwrap_or}
+use Rattle.std.proofs.Common.{None, Some, ◌≡◌, ℕ, ◌+◌, ◌-◌, ◌≤◌, Bool, true, false, List, [], ◌++◌, length, take, drop, sym, refl, ap, ◌∙◌, subst, append_assoc, append-nil, take-append-drop, drop_of_length-le}
+use Rattle.std.specs.Io.KnownBytes.{Appends, Consumes, Keeps}
 use Rattle.std.specs.declared.option.Option.{Option}
 use Rattle.std.proofs.lemmas.List.{take_rest}
-use Rattle.std.proofs.KnownBytes.{Appends-nil, Appends-trans, Consumes-nil, Consumes-kept, Consumes-trans}
+use Rattle.std.proofs.KnownBytes.{Appends-nil, Appends-trans, Consumes-nil, Consumes-trans}
 use lib.Seq.{take-add}
 use Rattle.mvhashmap.specs.Call.{View}
 use Rattle.history.specs.State.{State, emptied, ReadOn, gave_up}
@@ -40,12 +38,6 @@ appends_kept None b c bs h k = tt
 appends_kept (Some x) None c bs h k = absurd h
 appends_kept (Some x) (Some y) None bs h k = absurd k
 appends_kept (Some x) (Some y) (Some z) bs h k = k ∙ h
-
--- what a read brought, where an error counts as the end
-pub reads_some : {E : Type 0} (r : Result ℕ E) (a b : Option (List ℕ)) (bs : List ℕ) → ReadsAtMost r bs → ReadConsumes a b r bs
-    → (result_unwrap_or r 0 ≤ length bs) × Consumes a b (take (result_unwrap_or r 0) bs)
-reads_some (Ok n) a b bs h x = (h.0, x.0)
-reads_some (Err e) a b bs h x = (omega arith, Consumes-kept a a b [] (Consumes-nil a) x)
 
 pub handed_then : (a b c : Option (List ℕ)) (xs ys : List ℕ) (f g : Bool) → Handed a b xs f → f ≡ false → Handed b c ys g → Handed a c (xs ++ ys) g
 handed_then a b c xs ys f g x e y =

@@ -1,5 +1,6 @@
 // The input: what is read and not yet used, and the request that it starts with.
-ghost use Rattle.std.specs.Prelude.{◌≡◌, suc, ◌+◌, ◌-◌, ◌^◌, ◌<◌, ◌≤◌, ◌↔◌, ◌++◌, length, drop, IsTrue, IfSome, IfNone};
+ghost use Rattle.std.specs.Prelude.{◌≡◌, suc, ◌+◌, ◌-◌, ◌^◌, ◌<◌, ◌≤◌, ◌↔◌, ◌++◌, length, take, drop, IsTrue, IfSome, IfNone};
+ghost use Rattle.std.specs.Io.KnownBytes.{Consumes};
 ghost use Rattle.request.specs.Table.{longest_count};
 ghost use Rattle.history.specs.Input.{words_in, request_in, decided};
 ghost use Rattle.history.specs.State.{longest_request};
@@ -15,21 +16,20 @@ const LONGEST: usize = LONGEST_COUNT + 1;
 // A block of the input, and how much of it was read.
 #[derive(Drop)]
 pub struct Input<const N: usize> {
-    bytes: [u8; N],
+    pub bytes: [u8; N],
     // Bytes that are read and not yet used: from `at` to `end`.
-    at: usize,
-    end: usize,
+    pub at: usize,
+    pub end: usize,
     // Bytes that were read.
-    got: u64,
+    pub got: u64,
     // No more input comes.
-    over: bool,
+    pub over: bool,
     ghost from: { at ≤ end },
     ghost to: { end ≤ length bytes },
     ghost room: { longest_request ≤ N },
 }
 
 impl<const N: usize> Input<N> {
-    ghost use Rattle.std.specs.Io.KnownBytes.{Consumes};
     ghost use Rattle.history.specs.State.{start, unread, wants_more, ReadOn};
     ghost use Rattle.history.specs.Reading.{input_state, Uses};
 
@@ -67,8 +67,7 @@ impl<const N: usize> Input<N> {
         N as u64 <= u64::MAX - self.got
     }
 
-    // Reads on after the unread bytes, which are moved to the start. It may wait, so nothing else
-    // does. An error counts as the end.
+    // Reads on after the unread bytes, which are moved to the start.
     pub fn read_on<R: Read>(&mut self, reader: &mut R)
         requires room { self.old.end - self.old.at < N }
         requires counts { self.old.got + N < 2 ^ 64 }
@@ -80,7 +79,7 @@ impl<const N: usize> Input<N> {
         let left = end - at;
         let bytes = &mut self.bytes[..];
         bytes.copy_within(at..end, 0);
-        let n = reader.read(&mut bytes[left..]).unwrap_or(0);
+        let n = read_some(reader, &mut bytes[left..]);
         self.at = 0;
         self.end = left + n;
         self.got += n as u64;
@@ -94,6 +93,15 @@ impl<const N: usize> Input<N> {
     {
         self.at += n;
     }
+}
+
+// One read, for a byte or more: it waits for no more than there are. An error counts as the end.
+fn read_some<R: Read>(reader: &mut R, room: &mut [u8]) -> usize
+    requires room { 0 < length room.old }
+    ensures count { result ≤ length room.new }
+    ensures gave { Consumes (R.remaining reader.old) (R.remaining reader.new) (take result room.new) }
+{
+    reader.read(room).unwrap_or(0)
 }
 
 // How many words the request has that the bytes start with, if its head is there.

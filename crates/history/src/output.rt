@@ -16,11 +16,11 @@ pub const LINE: usize = 9 * ANSWER_WIDTH;
 // A block of the output, and how much of it was written.
 #[derive(Drop)]
 pub struct Output<const N: usize> {
-    bytes: [u8; N],
+    pub bytes: [u8; N],
     // Bytes that wait.
-    put: usize,
+    pub put: usize,
     // Bytes that were handed to write, modulo 2^64.
-    sent: u64,
+    pub sent: u64,
     ghost within: { put ≤ length bytes },
     ghost room: { longest_line ≤ N },
 }

@@ -13,14 +13,14 @@ use std::io::{ErrorKind, Read, Write};
 
 #[derive(Drop)]
 pub struct Session<const BLOCK: usize, const WORDS: usize, const STORE: usize> {
-    input: Input<BLOCK>,
-    output: Output<BLOCK>,
+    pub input: Input<BLOCK>,
+    pub output: Output<BLOCK>,
     // The request that is called with, and the slice for its answer.
-    words: [u32; WORDS],
-    answer: [u32; WORDS],
-    stores: Stores<STORE>,
+    pub words: [u32; WORDS],
+    pub answer: [u32; WORDS],
+    pub stores: Stores<STORE>,
     // No more lines come.
-    stopped: bool,
+    pub stopped: bool,
     ghost request_fits: { suc longest_count ≤ WORDS },
     ghost answer_fits: { answer_width ≤ WORDS },
 }

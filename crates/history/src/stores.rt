@@ -7,8 +7,8 @@ use mvhashmap::call;
 
 #[derive(Drop)]
 pub struct Stores<const N: usize> {
-    data: [u32; N],
-    group: [u32; N],
+    pub data: [u32; N],
+    pub group: [u32; N],
     ghost valid: { sound (stores «data» group) ≡ true },
 }
 

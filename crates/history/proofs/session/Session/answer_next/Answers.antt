@@ -33,7 +33,7 @@ skip-requires g c =
     subst (λ u. Loads u x.words c.next-n.new.words c.next-n.result) same (c.next-n.ensures.request, c.next-n.ensures.count) in
     let within : Within (length x.input.bytes) (state_of x false) = record { from = x.input.from; to = x.input.to } in
     let m = served (state_of x false) x.input.bytes x.words c.next-n.new.words before after c.next-n.result c.call-result.result within loads c.call-result.ensures.called in
-    (search rules, m.used)
+    (search rules, omega (arith, m.used))
 
 pub returns-clause-answered : goal.returns-clause-answered
 returns-clause-answered g c =
