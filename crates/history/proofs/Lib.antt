@@ -1,5 +1,4 @@
 mod InputWords
-mod InputMoves
 mod InputRequests
 mod InputDecided
 mod LineLaws

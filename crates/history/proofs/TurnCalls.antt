@@ -22,7 +22,7 @@ use Rattle.mvhashmap.proofs.StoresSound.{model_in_fine, call_of_long}
 use Rattle.mvhashmap.proofs.CallOrder.{long_slice}
 use Rattle.history.specs.Input.{request_in}
 use Rattle.history.specs.Line.{line_of}
-use Rattle.history.specs.State.{State, Within, unread}
+use Rattle.history.specs.State.{State, unread}
 use Rattle.history.specs.Turn.{line_for, after, Answered}
 use Rattle.history.proofs.InputRequests.{Loads, request_taken, request_fits, request_none}
 use Rattle.history.proofs.StateLaws.{length_unread}
@@ -116,13 +116,15 @@ pub record Served (s : State) (b : List ℕ) (l l' : Lent) (n r : ℕ) : Type 0 
   pub count : n ≡ length (request_in (unread s b))
   pub used : 4 * n ≤ s.end - s.at
 
-pub served : (s : State) (b w₀ w : List ℕ) (l l' : Lent) (n r : ℕ) → Within (length b) s → Loads (unread s b) w₀ w n → Calls (take n w) l r l'
-    → Served s b l l' n r
-served s b w₀ w l l' n r within loads calls =
+-- The words w that the call has are those of the unread bytes u.
+pub served : (s : State) (b u w₀ w : List ℕ) (l l' : Lent) (n r : ℕ) → s.at ≤ s.end → s.end ≤ length b → u ≡ unread s b → Loads u w₀ w n
+    → Calls (take n w) l r l' → Served s b l l' n r
+served s b u w₀ w l l' n r from to same loads calls =
+    let used : (4 * n) ≤ length u = omega (arith, loads.1, (request_fits u).1) in
     record {
-      called = rw (request_taken (unread s b) w₀ w n loads) at calls;
-      count = loads.1;
-      used = omega (arith, loads.1, (request_fits (unread s b)).1, length_unread s b within);
+      called = subst (λ (v : List ℕ). Calls (request_in v) l r l') same (rw (request_taken u w₀ w n loads) at calls);
+      count = loads.1 ∙ ap (λ (v : List ℕ). length (request_in v)) same;
+      used = omega (arith, used, ap (λ (v : List ℕ). length v) same, length_unread s b (record { from = from; to = to }));
     }
 
 -- Its line is put.

@@ -117,6 +117,7 @@ fn words_in(b: &[u8]) -> Option<usize>
 
 // Puts the words of the request that the bytes start with at the front, and answers how many they
 // are: none if the head counts too many words or the end is cut.
+// Kept: no words are a request too, which every call refuses by 2; an Option would be turned back into 0.
 pub fn next(b: &[u8], words: &mut [u32]) -> usize
     requires room { suc longest_count ≤ length words.old }
     ensures request { words.new ≡ request_in b.now ++ drop (length (request_in b.now)) words.old }

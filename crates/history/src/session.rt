@@ -87,6 +87,7 @@ impl<const BLOCK: usize, const WORDS: usize, const STORE: usize> Session<BLOCK, 
     fn turn<R: Read, W: Write>(&mut self, reader: &mut R, writer: &mut W) -> io::Result<()>
         requires goes_on { self.old.stopped ≡ false }
         ensures less { budget (state_of self.new (is_err result)) < budget (state_of self.old false) }
+        ensures turned { Turned (state_of self.old false) self.old.input.bytes (view_in self.old) self.old.output.bytes (state_of self.new (is_err result)) self.new.input.bytes (view_in self.new) self.new.output.bytes }
         ensures moved { TurnedBy (R.remaining reader.old) (R.remaining reader.new) (W.contents writer.old) (W.contents writer.new) (state_of self.old false) self.old.input.bytes (view_in self.old) self.old.output.bytes (state_of self.new (is_err result)) self.new.input.bytes (view_in self.new) self.new.output.bytes }
     {
         if self.output.room() < LINE {

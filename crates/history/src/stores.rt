@@ -25,6 +25,7 @@ impl<const N: usize> Stores<N> {
         }
     }
 
+    // Kept: the result is the number that is printed, and 0 where no line is `no`; a Result would be turned back into it.
     pub fn call(&mut self, request: &[u32], answer: &mut [u32]) -> u32
         ensures called { Calls request.now (lent self.old.«data» self.old.group answer.old) result (lent self.new.«data» self.new.group answer.new) }
 

@@ -14,7 +14,7 @@ returns-then-room-lt-LINE g c =
     goes_written (state_of x false) x.input.bytes (view_in x) x.output.bytes x.output.within refl (g.R.Read.remaining c.args.reader.now) _ _
     (omega (arith, x.output.room, c.room.ensures.room, c.if-room-lt-LINE.true)) _ o.bytes (emptied_in x.input x.output x.stopped _ o c.write_waiting.ensures.written)
     c.write_waiting.ensures.kept c.write_waiting.ensures.handed in
-    record { less = goes.0; moved = goes.1 }
+    record { less = goes.0; turned = goes.1.turned; moved = goes.1 }
 
 pub returns-then-not-wants_more : goal.returns-then-not-wants_more
 returns-then-not-wants_more g c =
@@ -26,7 +26,7 @@ returns-then-not-wants_more g c =
     goes_answered (state_of x false) x.input.bytes (view_in x) x.output.bytes within (omega (arith, x.answer_fits)) settles c.requires.goes_on
     (state_of y false) (view_in y) y.output.bytes y.output.within c.answer_next.ensures.answered
     (g.R.Read.remaining c.args.reader.now) (g.W.Write.contents c.args.writer.now) y.input.bytes c.answer_next.ensures.bytes in
-    record { less = goes.0; moved = goes.1 }
+    record { less = goes.0; turned = goes.1.turned; moved = goes.1 }
 
 pub returns-then-waiting-gt0 : goal.returns-then-waiting-gt0
 returns-then-waiting-gt0 g c =
@@ -36,7 +36,7 @@ returns-then-waiting-gt0 g c =
     goes_written (state_of x false) x.input.bytes (view_in x) x.output.bytes x.output.within refl (g.R.Read.remaining c.args.reader.now) _ _
     (omega (arith, c.waiting.ensures.waiting, c.if-waiting-gt0.true)) _ w.new.self.bytes (emptied_in x.input x.output x.stopped _ w.new.self w.ensures.written)
     w.ensures.kept w.ensures.handed in
-    record { less = goes.0; moved = goes.1 }
+    record { less = goes.0; turned = goes.1.turned; moved = goes.1 }
 
 pub returns-then-not-can_count : goal.returns-then-not-can_count
 unfolding gave_up
@@ -44,7 +44,7 @@ returns-then-not-can_count g c =
     let x = c.args.self.now in
     let goes =
     goes_gave_up (state_of x false) x.input.bytes (view_in x) x.output.bytes (g.R.Read.remaining c.args.reader.now) (g.W.Write.contents c.args.writer.now) refl in
-    record { less = goes.0; moved = goes.1 }
+    record { less = goes.0; turned = goes.1.turned; moved = goes.1 }
 
 pub read_on-requires : goal.read_on-requires
 read_on-requires g c =
@@ -65,4 +65,4 @@ returns g c =
     goes_read (state_of x false) x.input.bytes (view_in x) x.output.bytes within wants (state_of y false) y.input.bytes
     y.input.to c.read_on.ensures.reads (omega (arith, counts, c.read_on.ensures.size)) _ _
     (g.W.Write.contents c.args.writer.now) c.read_on.ensures.gave (view_in y) y.output.bytes c.read_on.ensures.view c.read_on.ensures.kept in
-    record { less = goes.0; moved = goes.1 }
+    record { less = goes.0; turned = goes.1.turned; moved = goes.1 }
