@@ -1,9 +1,8 @@
 -- How much of the input is read does not show: where bytes decide their first request, it is that of all the input that starts with them.
-use Rattle.std.proofs.Common.{◌≡◌, ℕ, zero, suc, ◌+◌, ◌*◌, ◌<◌, ◌≤◌, Bool, true, false, cond, ltb, leb, List, [], ◌∷◌, ◌++◌, length, drop, sym, refl, ap, arith, length-append, length-drop, ltb-false, ltb-true, le-ltb, lt-ltb, leb-false, leb-true}
+use Rattle.std.proofs.Common.{◌≡◌, ℕ, zero, suc, ◌*◌, ◌<◌, ◌≤◌, Bool, true, false, cond, ltb, leb, List, [], ◌∷◌, ◌++◌, length, drop, sym, refl, ap, arith, length-append, length-drop, ltb-false, ltb-true, le-ltb, lt-ltb, leb-false, leb-true}
 use lib.ListN.{get_or-append}
 use lib.Seq.{drop-append-le}
 use Rattle.lists.proofs.Bools.{never}
-use Rattle.types.specs.Response.{count_in}
 use Rattle.request.specs.Table.{longest_count}
 use Rattle.history.specs.Input.{word_from, words_from, words_in, request_in, decided}
 use Rattle.history.specs.State.{longest_request}
@@ -14,18 +13,14 @@ pub decided_few : (b : List ℕ) → length b < 4 → false ≡ decided b
 unfolding decided
 decided_few b h = rw (lt-ltb (length b) 4 h) refl
 
-module _ (b : List ℕ) (k : ℕ) (head : k ≡ count_in (word_from (drop 0 b))) (some : 4 ≤ length b) where
-  count : words_in b ≡ k + 1
-  unfolding words_in
-  count = ap (λ (m : ℕ). m + 1) (sym head)
-
-  pub decided_many : longest_count < k → true ≡ decided b
+module _ (b : List ℕ) (n : ℕ) (some : 4 ≤ length b) (head : n ≡ words_in b) where
+  pub decided_many : suc longest_count < n → ltb (suc longest_count) n ≡ decided b
   unfolding decided
-  decided_many h = rw (le-ltb (length b) 4 some, count, lt-ltb (suc longest_count) (k + 1) (omega arith)) refl
+  decided_many h = rw (le-ltb (length b) 4 some, sym head, lt-ltb (suc longest_count) n h) refl
 
-  pub decided_count : k ≤ longest_count → (r : Bool) → r ≡ leb (4 * (k + 1)) (length b) → r ≡ decided b
+  pub decided_few_words : n ≤ suc longest_count → leb (4 * n) (length b) ≡ decided b
   unfolding decided
-  decided_count h r e = rw (le-ltb (length b) 4 some, count, le-ltb (suc longest_count) (k + 1) (omega arith)) e
+  decided_few_words h = rw (le-ltb (length b) 4 some, sym head, le-ltb (suc longest_count) n h) refl
 
 -- ---- what it means
 

@@ -1,8 +1,7 @@
 -- Laws of the next request.
-use Rattle.std.proofs.Common.{◌≡◌, ℕ, suc, ◌+◌, ◌*◌, ◌<◌, ◌≤◌, Bool, true, false, cond, ltb, List, [], ◌++◌, length, take, drop, sym, refl, ap, ◌∙◌, arith, take_at, ltb-false, le-ltb, lt-ltb}
-use Rattle.types.specs.Response.{count_in}
+use Rattle.std.proofs.Common.{◌≡◌, ℕ, suc, ◌*◌, ◌<◌, ◌≤◌, Bool, true, false, cond, ltb, List, [], ◌++◌, length, take, drop, sym, refl, ap, ◌∙◌, arith, take_at, ltb-false, le-ltb, lt-ltb}
 use Rattle.request.specs.Table.{longest_count}
-use Rattle.history.specs.Input.{word_from, words_from, words_in, request_in}
+use Rattle.history.specs.Input.{words_from, words_in, request_in}
 use Rattle.history.proofs.InputWords.{words_length}
 
 -- What `next` promises of the words s after it, and of its count.
@@ -20,27 +19,22 @@ module _ (b s₀ : List ℕ) where
   pub found_short : length b < 4 → Loads b s₀ s₀ 0
   found_short h = none (request_none b h)
 
-  module _ (k : ℕ) (head : k ≡ count_in (word_from (drop 0 b))) (some : 4 ≤ length b) where
-    count : words_in b ≡ k + 1
-    unfolding words_in
-    count = ap (λ (m : ℕ). m + 1) (sym head)
-
-    pub found_many : longest_count < k → Loads b s₀ s₀ 0
+  module _ (n : ℕ) (some : 4 ≤ length b) (head : n ≡ words_in b) where
+    pub found_many : suc longest_count < n → Loads b s₀ s₀ 0
     unfolding request_in
-    found_many h = none (rw (le-ltb _ _ some, count, lt-ltb (suc longest_count) (k + 1) (omega arith)) refl)
+    found_many h = none (rw (le-ltb _ _ some, sym head, lt-ltb (suc longest_count) n h) refl)
 
-    module _ (few : k ≤ longest_count) where
-      pub found_cut : length b < 4 * (k + 1) → Loads b s₀ s₀ 0
+    module _ (few : n ≤ suc longest_count) where
+      pub found_cut : length b < 4 * n → Loads b s₀ s₀ 0
       unfolding request_in
-      found_cut h = none (rw (le-ltb _ _ some, count, le-ltb (suc longest_count) (k + 1) (omega arith), lt-ltb _ _ h) refl)
+      found_cut h = none (rw (le-ltb _ _ some, sym head, le-ltb (suc longest_count) n few, lt-ltb _ _ h) refl)
 
-      module _ (whole : 4 * (k + 1) ≤ length b) where
-        found : request_in b ≡ words_from (k + 1) b
-        unfolding request_in
-        found = rw (le-ltb _ _ some, count, le-ltb (suc longest_count) (k + 1) (omega arith), le-ltb _ _ whole) refl
+      found : 4 * n ≤ length b → request_in b ≡ words_from n b
+      unfolding request_in
+      found h = rw (le-ltb _ _ some, sym head, le-ltb (suc longest_count) n few, le-ltb _ _ h) refl
 
-        pub found_request : (s : List ℕ) → s ≡ words_from (k + 1) b ++ drop (k + 1) s₀ → Loads b s₀ s (k + 1)
-        found_request s e = rw (found, words_length (k + 1) b) (e, refl)
+      pub found_request : 4 * n ≤ length b → (s : List ℕ) → s ≡ words_from n b ++ drop n s₀ → Loads b s₀ s n
+      found_request h s e = rw (found h, words_length n b) (e, refl)
 
 -- The words that are loaded are the request.
 pub request_taken : (b s₀ s : List ℕ) (n : ℕ) → Loads b s₀ s n → take n s ≡ request_in b

@@ -1,5 +1,4 @@
 mod InputWords
-mod InputMoves
 mod InputRequests
 mod InputDecided
 mod LineLaws
@@ -12,3 +11,4 @@ mod TurnAnswers
 mod TurnPromises
 mod WholeEnds
 mod RanLaws
+mod SessionLaws

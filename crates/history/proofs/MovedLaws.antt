@@ -1,14 +1,13 @@
 -- Laws of what reads and writes moved: nothing, one after the other, and at turns that write, give up or read on.
-use Rattle.std.proofs.Common.{◌≡◌, ℕ, ◌+◌, ◌-◌, ◌≤◌, Bool, true, false, List, [], ◌++◌, length, take, drop, sym, refl, ap, ◌∙◌, subst, append_assoc, append-nil, take-append-drop, drop_of_length-le}
-use Rattle.std.specs.Io.KnownBytes.{Appends, Consumes}
+use Rattle.std.proofs.Common.{None, Some, ◌≡◌, ℕ, ◌+◌, ◌-◌, ◌≤◌, Bool, true, false, List, [], ◌++◌, length, take, drop, sym, refl, ap, ◌∙◌, subst, append_assoc, append-nil, take-append-drop, drop_of_length-le}
+use Rattle.std.specs.Io.KnownBytes.{Appends, Consumes, Keeps}
 use Rattle.std.specs.declared.option.Option.{Option}
 use Rattle.std.proofs.lemmas.List.{take_rest}
 use Rattle.std.proofs.KnownBytes.{Appends-nil, Appends-trans, Consumes-nil, Consumes-trans}
 use lib.Seq.{take-add}
 use Rattle.mvhashmap.specs.Call.{View}
-use Rattle.history.specs.State.{emptied, ReadOn, gave_up}
+use Rattle.history.specs.State.{State, emptied, ReadOn, gave_up}
 use Rattle.history.specs.Moved.{Handed, Moved, TurnedBy}
-use Rattle.history.specs.declared.state.State.{State}
 use Rattle.history.proofs.TurnSteps.{turned_none, turned_then, turned_written, turned_gave_up, turned_read}
 
 -- ---- bytes that are handed to a writer
@@ -32,6 +31,13 @@ pub appends_more : (a b c : Option (List ℕ)) (bs : List ℕ) (i n : ℕ) → A
 appends_more a b c bs i n h k =
     subst (Appends a c) (sym (take-add i n bs))
     (Appends-trans a b c (take i bs) (take n (drop i bs)) h (subst (λ (l : List ℕ). Appends b c (take n l)) (take_rest bs i) k))
+
+-- nothing more was taken
+pub appends_kept : (a b c : Option (List ℕ)) (bs : List ℕ) → Appends a b bs → Keeps b c → Appends a c bs
+appends_kept None b c bs h k = tt
+appends_kept (Some x) None c bs h k = absurd h
+appends_kept (Some x) (Some y) None bs h k = absurd k
+appends_kept (Some x) (Some y) (Some z) bs h k = k ∙ h
 
 pub handed_then : (a b c : Option (List ℕ)) (xs ys : List ℕ) (f g : Bool) → Handed a b xs f → f ≡ false → Handed b c ys g → Handed a c (xs ++ ys) g
 handed_then a b c xs ys f g x e y =

@@ -4,11 +4,10 @@ use Rattle.std.specs.declared.option.Option.{Option}
 use Rattle.lists.proofs.Bools.{true_not_false}
 use Rattle.mvhashmap.specs.Call.{View}
 use Rattle.history.specs.Whole.{requests_in, lines_of, view_after}
-use Rattle.history.specs.State.{unread, emptied, start}
+use Rattle.history.specs.State.{State, unread, emptied, start}
 use Rattle.history.specs.Turn.{lines_ahead, view_ahead, Turned}
 use Rattle.history.specs.Ran.{Ran}
 use Rattle.history.specs.Moved.{Handed, TurnedBy, RanBy}
-use Rattle.history.specs.declared.state.State.{State}
 use Rattle.history.proofs.MovedLaws.{by_then, by_written}
 
 -- At the start nothing waits and nothing is unread.
@@ -63,12 +62,12 @@ module _ (a d u w : Option (List ℕ)) (b : List ℕ) (l : View) (o : List ℕ) 
   unfolding ran
   ran_by r c m p x done = record { ran = ran b l o r c m p x.turned done; moved = x.moved }
 
-  pub ran_failed : (r : State) (c : List ℕ) (m : View) (p : List ℕ) → TurnedBy a d u w start b l o r c m p → r.failed ≡ true → RanBy a d u w l r m
-  ran_failed r c m p x e = ran_by r c m p x (λ f. true_not_false r.failed e f)
+  pub ran_failed : (s : State) → s ≡ start → (r : State) (c : List ℕ) (m : View) (p : List ℕ) → TurnedBy a d u w s b l o r c m p → r.failed ≡ true
+      → RanBy a d u w l r m
+  ran_failed s first r c m p x e = ran_by r c m p (rw first at x) (λ f. true_not_false r.failed e f)
 
 -- It stopped, and what waits then is written.
-module _ (a d u v w : Option (List ℕ)) (b : List ℕ) (l : View) (o : List ℕ) (s : State) (c : List ℕ) (m : View) (p : List ℕ)
-    (x : TurnedBy a d u v start b l o s c m p) where
+module _ (a d u v w : Option (List ℕ)) (b : List ℕ) (l : View) (o : List ℕ) (s : State) (c : List ℕ) (m : View) (p : List ℕ) where
   end_stop : (failed : Bool) → (emptied s failed).stop ≡ s.stop
   unfolding emptied
   end_stop failed = refl
@@ -77,10 +76,13 @@ module _ (a d u v w : Option (List ℕ)) (b : List ℕ) (l : View) (o : List ℕ
   unfolding emptied
   end_put failed = refl
 
-  pub ran_stopped : (r : State) → s.put ≤ length p → s.stop ≡ true → s.failed ≡ false → r ≡ emptied s r.failed → Handed v w (take s.put p) r.failed
+  pub ran_stopped : (t : State) → t ≡ start → TurnedBy a d u v t b l o s c m p → (r : State) → s.put ≤ length p → s.stop ≡ true → s.failed ≡ false → r ≡ emptied s r.failed → Handed v w (take s.put p) r.failed
       → RanBy a d u w l r m
-  ran_stopped r h e goes f k = subst (λ (t : State). RanBy a d u w l t m) (sym f) (done r.failed k)
+  ran_stopped t first y r h e goes f k = subst (λ (t : State). RanBy a d u w l t m) (sym f) (done r.failed k)
     where
+      x : TurnedBy a d u v start b l o s c m p
+      x = rw first at y
+
       done : (failed : Bool) → Handed v w (take s.put p) failed → RanBy a d u w l (emptied s failed) m
       done failed k =
           ran_by a d u w b l o (emptied s failed) c m p

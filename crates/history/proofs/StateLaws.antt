@@ -6,8 +6,7 @@ use lib.Seq.{paste, take-append-add, take-paste, length-paste}
 use borrow.Author.Tests.{eqb-false, not-true, not-false}
 use Rattle.lists.proofs.Bools.{never}
 use Rattle.history.specs.Input.{decided}
-use Rattle.history.specs.State.{longest_request, Within, unread, wants_more, emptied, read_on, ReadOn, gave_up, budget}
-use Rattle.history.specs.declared.state.State.{State}
+use Rattle.history.specs.State.{State, longest_request, Within, unread, wants_more, emptied, read_on, ReadOn, gave_up, budget}
 use Rattle.history.proofs.InputDecided.{undecided_short}
 
 pub length_unread : (s : State) (b : List ℕ) → Within (length b) s → length (unread s b) ≡ s.end - s.at
@@ -20,7 +19,7 @@ pub wants_over : (s : State) (b : List ℕ) → s.over ≡ true → false ≡ wa
 unfolding wants_more
 wants_over s b e = rw e refl
 
-pub wants_decided : (s : State) (b : List ℕ) (t : Bool) → s.over ≡ false → t ≡ decided (take (s.end - s.at) (drop s.at b)) → not t ≡ wants_more s b
+pub wants_decided : (s : State) (b : List ℕ) (t : Bool) → s.over ≡ false → t ≡ decided (unread s b) → not t ≡ wants_more s b
 unfolding wants_more unread
 wants_decided s b t e d = rw e (ap not d)
 

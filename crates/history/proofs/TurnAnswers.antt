@@ -10,10 +10,9 @@ use Rattle.mvhashmap.specs.Run.{seen_of}
 use Rattle.history.specs.Input.{request_in, decided}
 use Rattle.history.specs.Line.{line_of}
 use Rattle.history.specs.Whole.{requests_in, lines_of, view_after}
-use Rattle.history.specs.State.{Within, unread, budget}
+use Rattle.history.specs.State.{State, Within, unread, budget}
 use Rattle.history.specs.Turn.{line_for, after, Answered, lines_ahead, view_ahead, Turned}
 use Rattle.history.specs.Moved.{TurnedBy}
-use Rattle.history.specs.declared.state.State.{State}
 use Rattle.history.proofs.InputRequests.{request_fits, request_none}
 use Rattle.history.proofs.InputDecided.{decided_few, request_in_decided}
 use Rattle.history.proofs.WholeLaws.{lines_of_none, view_after_none, lines_of_next, view_after_next}

@@ -1,10 +1,9 @@
 -- Laws of the call that the next request makes, and of what it leaves.
-use Rattle.std.proofs.Common.{◌≡◌, ℕ, suc, ◌+◌, ◌-◌, ◌*◌, ◌<◌, ◌≤◌, Bool, true, false, ◌||◌, eqb, ltb, leb, List, [], ◌∷◌, length, get_or, take, drop, sym, refl, ap, ◌∙◌, subst, arith, ltb-true, le-ltb, eq-eqb, ne_eqb, eqb-true, leb-true}
+use Rattle.std.proofs.Common.{◌≡◌, ℕ, suc, ◌+◌, ◌-◌, ◌*◌, ◌<◌, ◌≤◌, Bool, true, false, ◌||◌, eqb, ltb, leb, List, [], ◌∷◌, length, get_or, take, sym, refl, ap, ◌∙◌, subst, arith, ltb-true, le-ltb, eq-eqb, ne_eqb, eqb-true, leb-true}
 use lib.Seq.{sets}
 use Rattle.lists.specs.Lists.{every}
 use Rattle.lists.proofs.Bools.{and_left, true_not_false}
 use Rattle.number.specs.Words.{AreWords}
-use Rattle.number.proofs.Digits.{words_take}
 use Rattle.types.specs.Refusal.{wrong_count, of_slice, of_request, of_store, of_entry, of_commit, of_materialize, of_units, of_rules, refusals, is_in, is_refusal, is_result}
 use Rattle.types.specs.Response.{count_in, answer_width}
 use Rattle.types.proofs.RefusalLaws.{is_in_every, refusal_nonzero}
@@ -19,15 +18,13 @@ use Rattle.versioned_group_data.specs.Ruled.{answer_in}
 use Rattle.mvhashmap.specs.Call.{Lent, sound, model_in, fixed_of, View, view_of, CalledView, early_refusal, refused_by, called_by, call_of, Calls}
 use Rattle.mvhashmap.specs.Run.{shown, seen_of}
 use Rattle.mvhashmap.proofs.DemandTotal.{total}
-use Rattle.mvhashmap.proofs.StoresSound.{model_in_fine, call_of_long, calls_sound}
+use Rattle.mvhashmap.proofs.StoresSound.{model_in_fine, call_of_long}
 use Rattle.mvhashmap.proofs.CallOrder.{long_slice}
 use Rattle.history.specs.Input.{request_in}
 use Rattle.history.specs.Line.{line_of}
-use Rattle.history.specs.State.{longest_line, Within, unread}
+use Rattle.history.specs.State.{State, unread}
 use Rattle.history.specs.Turn.{line_for, after, Answered}
-use Rattle.history.specs.declared.state.State.{State}
 use Rattle.history.proofs.InputRequests.{Loads, request_taken, request_fits, request_none}
-use Rattle.history.proofs.LineLaws.{shown_short}
 use Rattle.history.proofs.StateLaws.{length_unread}
 
 -- Every call refuses no words by 2.
@@ -77,10 +74,7 @@ unfolding seen_of
 shown_seen t l r after k = ap seen_of k.called
 
 -- Nothing is unread, so nothing is put, and the run stops.
-module _ (s : State) (b : List ℕ) (l : View) (o : List ℕ) (within : Within (length b) s) (long : answer_width ≤ length l.out) (e : s.at ≡ s.end) where
-  empty : length (unread s b) ≡ 0
-  empty = omega (arith, length_unread s b within)
-
+module _ (s : State) (b : List ℕ) (l : View) (o : List ℕ) (long : answer_width ≤ length l.out) (empty : length (unread s b) ≡ 0) where
   none : request_in (unread s b) ≡ []
   none = request_none (unread s b) (omega (arith, empty))
 
@@ -106,65 +100,40 @@ module _ (s : State) (b : List ℕ) (l : View) (o : List ℕ) (within : Within (
       put : s.put + 0 ≡ s.put
       put = omega arith
 
+-- What a call shows is a number of two digits, or an answer no longer than its slice.
+module _ (t : List ℕ) (l : Lent) (r : ℕ) (l' : Lent) (valid : sound l.stores ≡ true) (words : AreWords t) (calls : Calls t l r l') where
+  pub shows_small : r < 100
+  shows_small = number_small r (total t l r l' calls).number
+
+  pub shows_few : answer_width ≤ length l.out → r ≡ 0 → count_in (get_or l'.out 0 0) < answer_width
+  shows_few long e =
+      let h = call_of_few t l valid (words_every t words) long (ap (λ (c : CalledView). c.result) (sym calls.called) ∙ e) in
+      subst (λ (v : View). count_in (get_or v.out 0 0) < answer_width) (ap (λ (c : CalledView). c.view) (sym calls.called)) h
+
 -- The next request is called: l' is left, n words were used and r is the result.
 pub record Served (s : State) (b : List ℕ) (l l' : Lent) (n r : ℕ) : Type 0 where
   pub called : Calls (request_in (unread s b)) l r l'
   pub count : n ≡ length (request_in (unread s b))
-  pub used : s.at + 4 * n ≤ s.end
-  pub small : r < 100
-  pub few : r ≡ 0 → count_in (get_or l'.out 0 0) < answer_width
-  pub sound : sound l'.stores ≡ true
+  pub used : 4 * n ≤ s.end - s.at
 
-module _ (s : State) (b w₀ w : List ℕ) (l l' : Lent) (n r : ℕ) (within : Within (length b) s) (valid : sound l.stores ≡ true)
-    (long : answer_width ≤ length l.out) (words : AreWords w) (loads : Loads (take (s.end - s.at) (drop s.at b)) w₀ w n)
-    (calls : Calls (take n w) l r l') where
-  count : n ≡ length (request_in (unread s b))
-  unfolding unread
-  count = loads.1
-
-  taken : take n w ≡ request_in (unread s b)
-  unfolding unread
-  taken = request_taken (take (s.end - s.at) (drop s.at b)) w₀ w n loads
-
-  its_call : Calls (request_in (unread s b)) l r l'
-  its_call = rw taken at calls
-
-  all_words : every is_word (request_in (unread s b)) ≡ true
-  all_words = rw (sym taken) (words_every (take n w) (words_take n w words))
-
-  result : r ≡ (call_of (request_in (unread s b)) (view_of l)).result
-  result = ap (λ (c : CalledView). c.result) its_call.called
-
-  left : view_of l' ≡ (call_of (request_in (unread s b)) (view_of l)).view
-  left = ap (λ (c : CalledView). c.view) its_call.called
-
-  few : r ≡ 0 → count_in (get_or l'.out 0 0) < answer_width
-  few e =
-      let h = call_of_few (request_in (unread s b)) l valid all_words long (sym result ∙ e) in
-      subst (λ (v : View). count_in (get_or v.out 0 0) < answer_width) (sym left) h
-
-  pub served : Served s b l l' n r
-  served =
-      record {
-        called = its_call;
-        count = count;
-        used = omega (arith, within.from, count, (request_fits (unread s b)).1, length_unread s b within);
-        small = number_small r (total (request_in (unread s b)) l r l' its_call).number;
-        few = few;
-        sound = calls_sound (request_in (unread s b)) l r l' its_call valid;
-      }
+-- The words w that the call has are those of the unread bytes u.
+pub served : (s : State) (b u w₀ w : List ℕ) (l l' : Lent) (n r : ℕ) → s.at ≤ s.end → s.end ≤ length b → u ≡ unread s b → Loads u w₀ w n
+    → Calls (take n w) l r l' → Served s b l l' n r
+served s b u w₀ w l l' n r from to same loads calls =
+    let used : (4 * n) ≤ length u = omega (arith, loads.1, (request_fits u).1) in
+    record {
+      called = subst (λ (v : List ℕ). Calls (request_in v) l r l') same (rw (request_taken u w₀ w n loads) at calls);
+      count = loads.1 ∙ ap (λ (v : List ℕ). length (request_in v)) same;
+      used = omega (arith, used, ap (λ (v : List ℕ). length v) same, length_unread s b (record { from = from; to = to }));
+    }
 
 -- Its line is put.
 module _ (s : State) (b : List ℕ) (l l' : Lent) (n r put : ℕ) (m : Served s b l l' n r) (end : put ≡ s.put + length (line_of (shown r l'.out))) where
-  pub shown_fits : answer_width ≤ length l'.out → put ≤ s.put + longest_line
-  shown_fits h = omega (arith, shown_short r l'.out h m.few)
-
-  module _ (o p : List ℕ) (within : Within (length b) s) (some : s.at ≡ s.end → ⊥) (line : p ≡ sets o s.put (line_of (shown r l'.out))) where
+  module _ (o p : List ℕ) (some : length (unread s b) ≡ 0 → ⊥) (line : p ≡ sets o s.put (line_of (shown r l'.out))) where
     its_line : line_of (shown r l'.out) ≡ line_for (unread s b) (view_of l)
     unfolding line_for
     its_line =
-        let h : length (unread s b) ≡ 0 → ⊥ = λ z. some (omega (arith, within.from, length_unread s b within)) in
-        rw (ne_eqb (length (unread s b)) 0 h) (ap line_of (shown_seen (request_in (unread s b)) l r l' m.called))
+        rw (ne_eqb (length (unread s b)) 0 some) (ap line_of (shown_seen (request_in (unread s b)) l r l' m.called))
 
     pub answered_request : Answered s (unread s b) (view_of l) o (record { at = s.at + 4 * n; end = s.end; put = put; got = s.got; sent = s.sent; over = s.over; stop = eqb n 0; failed = s.failed }) (view_of l') p
     unfolding after

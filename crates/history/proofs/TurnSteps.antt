@@ -4,9 +4,8 @@ use native.Mathlib.Nat.{mod-add-mod}
 use Rattle.lists.proofs.Bools.{true_not_false}
 use Rattle.mvhashmap.specs.Call.{View}
 use Rattle.history.specs.Whole.{requests_in, lines_of, view_after}
-use Rattle.history.specs.State.{unread, emptied, read_on, ReadOn, gave_up}
+use Rattle.history.specs.State.{State, unread, emptied, read_on, ReadOn, gave_up}
 use Rattle.history.specs.Turn.{lines_ahead, view_ahead, Turned}
-use Rattle.history.specs.declared.state.State.{State}
 
 -- ---- none, and one after the other
 

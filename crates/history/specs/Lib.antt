@@ -5,3 +5,6 @@ pub mod State
 pub mod Turn
 pub mod Ran
 pub mod Moved
+pub mod Reading
+pub mod Writing
+pub mod Session

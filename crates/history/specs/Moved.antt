@@ -5,7 +5,7 @@ use Rattle.std.specs.declared.option.Option.{Option}
 use Rattle.mvhashmap.specs.Call.{View}
 use Rattle.history.specs.Turn.{Turned}
 use Rattle.history.specs.Ran.{Ran}
-use Rattle.history.specs.declared.state.State.{State}
+use Rattle.history.specs.State.{State}
 
 -- A writer that was handed bs took a front of them after what it held, and all of them unless a write failed.
 pub record Handed (old new : Option (List ℕ)) (bs : List ℕ) (failed : Bool) : Type 0 where

@@ -2,8 +2,7 @@
 use Rattle.std.specs.Prelude.{◌≡◌, ℕ, ◌%◌, ◌^◌, true, false, List, ◌++◌, length}
 use Rattle.mvhashmap.specs.Call.{View}
 use Rattle.history.specs.Whole.{requests_in, lines_of, view_after}
-use Rattle.history.specs.State.{MayFollow}
-use Rattle.history.specs.declared.state.State.{State}
+use Rattle.history.specs.State.{State, MayFollow}
 
 -- A run, from what is known of what is lent first to the state r and to what is known of what it leaves. One that stopped at a head over the most may leave input that it has not read:
 -- whatever that is, the lines are the same.

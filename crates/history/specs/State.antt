@@ -3,7 +3,22 @@ use Rattle.std.specs.Prelude.{◌≡◌, ℕ, suc, ◌+◌, ◌-◌, ◌*◌, �
 use Rattle.types.specs.Response.{answer_width}
 use Rattle.request.specs.Table.{longest_count}
 use Rattle.history.specs.Input.{decided}
-use Rattle.history.specs.declared.state.State.{State}
+
+-- Where a run stands.
+pub record State : Type 0 where
+  -- the bytes that are read and not yet used lie from `at` to `end` of the input's buffer
+  pub at : ℕ
+  pub end : ℕ
+  -- as many bytes wait in the output's buffer
+  pub put : ℕ
+  -- the bytes that were read, and those that were handed to write, modulo 2^64
+  pub got : ℕ
+  pub sent : ℕ
+  -- no more input comes, or no more lines
+  pub over : Bool
+  pub stop : Bool
+  -- a write failed, or `got` might not count what the next read brings
+  pub failed : Bool
 
 -- The bytes of the longest request, and of the longest line: 8 digits a word, and a space or the line's end.
 abbrev pub longest_request : ℕ

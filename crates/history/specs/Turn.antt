@@ -7,8 +7,7 @@ use Rattle.mvhashmap.specs.Run.{seen_of}
 use Rattle.history.specs.Input.{request_in}
 use Rattle.history.specs.Line.{line_of}
 use Rattle.history.specs.Whole.{requests_in, lines_of, view_after}
-use Rattle.history.specs.State.{unread, MayFollow}
-use Rattle.history.specs.declared.state.State.{State}
+use Rattle.history.specs.State.{State, unread, MayFollow}
 
 -- The line for the unread bytes u, by what is known of what is lent to the call. No input prints nothing.
 unfoldable pub line_for : List ℕ → View → List ℕ

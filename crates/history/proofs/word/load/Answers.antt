@@ -3,12 +3,12 @@ use Rattle.history.proofs.InputWords.{load_start, load_again, load_done}
 use Rattle.history.proofs.word.load.Goals as goal
 
 pub loop-i-init : goal.loop-i-init
-loop-i-init c = (omega arith, refl, load_start c.args.b.now c.args.words.now)
+loop-i-init c = (refl, load_start c.args.b.now c.args.words.now)
 
 pub loop-i-preserved : goal.loop-i-preserved
 loop-i-preserved c =
-    (omega arith, simp length-set c.loop-i.invariant.1, load_again c.args.b.now c.args.words.now _ c.loop-i.i _ c.loop-i.invariant.2 (omega arith) c.word_at.ensures.word)
+    (simp length-set c.loop-i.invariant.0, load_again c.args.b.now c.args.words.now _ c.loop-i.i _ c.loop-i.invariant.1 (omega arith) c.word_at.ensures.word)
 
 pub returns : goal.returns
 returns c =
-    record { loaded = load_done c.args.b.now c.args.words.now _ c.loop-i.i c.args.n c.loop-i.invariant.2 (omega arith) }
+    record { loaded = load_done c.args.b.now c.args.words.now _ c.loop-i.i c.args.n c.loop-i.invariant.1 (omega arith) }

@@ -1,9 +1,0 @@
-use Rattle.std.proofs.Common.{◌≡◌, ◌-◌, ◌≤◌, length, drop}
-use lib.Seq.{paste}
-use Rattle.history.proofs.state.move_down.Given as goal
-
-abbrev pub invariant-loop-i : goal.invariant-loop-i
-invariant-loop-i l = (l.i ≤ l.n) × (length l.bytes ≡ length l.initial.bytes) × (l.bytes ≡ paste l.initial.bytes 0 (drop l.from l.initial.bytes) l.i)
-
-abbrev pub decreases-loop-i : goal.decreases-loop-i
-decreases-loop-i l = l.n - l.i
