@@ -1,6 +1,6 @@
 -- Laws of 128-bit numbers in two halves.
 -- Assumes nothing.
-use Rattle.std.proofs.Common.{◌≡◌, ℕ, ◌+◌, ◌-◌, ◌*◌, ◌^◌, ◌<◌, ◌≤◌, max, Some, None, ltb, leb, arith}
+use Rattle.std.proofs.Common.{◌≡◌, ℕ, ◌+◌, ◌-◌, ◌*◌, ◌^◌, ◌<◌, ◌≤◌, max, true, false, not, ◌==◌, Some, None, ltb, leb, arith}
 use Rattle.std.specs.Ordering.{nat_cmp, is_lt, is_le, on, ord_max}
 use native.Mathlib.Nat.{mod-add-div'}
 use Rattle.number.specs.declared.Number.{Number}
@@ -62,3 +62,16 @@ at_most_is a b = grind arith
 
 pub max_is : (a b : Number) → Halves a → Halves b → ord_max (on value_of nat_cmp) a b ≡ number_of (max (value_of a) (value_of b))
 max_is a b g h = grind (arith, number_of_value_of)
+
+module _ (a b : ℕ) where
+  pub less : true ≡ is_lt (nat_cmp a b) → a < b
+  less e = grind arith
+
+  pub not_less : false ≡ is_lt (nat_cmp a b) → b ≤ a
+  not_less e = grind arith
+
+  pub equal : false ≡ not (a == b) → a ≡ b
+  equal e = grind arith
+
+  pub not_equal : true ≡ not (a == b) → a ≡ b → ⊥
+  not_equal e k = grind arith
