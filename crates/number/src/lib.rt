@@ -22,6 +22,7 @@ pub struct Number {
 
 // The carry of a + b out of 64 bits, 1 or 0: the wrapped sum is less than an addend exactly if
 // the sum wrapped.
+// Kept: wrapping halves, with a carry of 1 or 0 that is added to the next, are a rule of the project.
 fn carry(a: u64, b: u64) -> u64
     ensures carries { result ≡ carry_of a b }
 {
@@ -88,6 +89,7 @@ impl Number {
     }
 }
 
+// Kept: equality and order by hand, since a derive compares the halves, and a contract is to speak of the values.
 impl PartialEq for Number {
     ghost use Rattle.number.specs.Number.{value_of};
 
