@@ -91,8 +91,6 @@ impl Number {
 
 // Kept: equality and order by hand, since a derive compares the halves, and a contract is to speak of the values.
 impl PartialEq for Number {
-    ghost use Rattle.number.specs.Number.{value_of};
-
     ghost eq = { on value_of nat_eq };
 
     ghost laws = { Prim.search (comparing, rules) };
@@ -107,8 +105,6 @@ impl Eq for Number {
 }
 
 impl Ord for Number {
-    ghost use Rattle.number.specs.Number.{value_of};
-
     ghost cmp = { on value_of nat_cmp };
 
     ghost total = { Prim.search (comparing, rules) };
@@ -123,8 +119,6 @@ impl Ord for Number {
 }
 
 impl PartialOrd for Number {
-    ghost use Rattle.number.specs.Number.{value_of};
-
     ghost partial_cmp = { as_partial_cmp (on value_of nat_cmp) };
 
     ghost laws = { partial_order_from_own_ties (Prim.search (comparing, rules)) (Prim.search (comparing, rules)) };
