@@ -43,6 +43,9 @@ unfolding sign_word is_minus
 byte_sign (pos n) = refl
 byte_sign (negsuc n) = refl
 
+pub is_negative_lem : (s : ℕ) → (s ≡ 0 → ⊥) → is_negative s ≡ true
+is_negative_lem s h = grind arith
+
 -- a sign of 0 or 1 is the word of its own meaning
 word_of_sign : (s : ℕ) → s ≤ 1 → cond (is_negative s) 1 0 ≡ s
 word_of_sign zero h = refl

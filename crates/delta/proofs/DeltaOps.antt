@@ -1,4 +1,4 @@
--- What the methods of deltas find, each as one equation between the answer and plain numbers.
+-- What the methods of deltas find.
 -- Assumes nothing.
 use Rattle.std.proofs.Common.{◌≡◌, ℕ, zero, suc, ◌+◌, ◌<◌, ◌≤◌, Bool, true, false, cond, not, ◌&&◌, eqb, leb, ℤ, pos, neg_ℤ, nat_abs, ◌+ℤ◌, Some, None, refl, sym, ap, ◌∙◌, arith}
 use lib.Dec.{eqb-suc-zero}

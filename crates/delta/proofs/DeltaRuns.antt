@@ -1,21 +1,42 @@
 -- A run of records folded newest first: one record after another, as the loop does it.
 -- Assumes nothing.
 use Rattle.std.proofs.Common.{◌≡◌, ℕ, ◌+◌, ◌<◌, ◌≤◌, Bool, true, false, cond, ◌&&◌, List, [], ◌∷◌, map, length, take, get_or, refl, sym, ap, ◌∙◌}
+use Rattle.std.specs.Prelude.{Option, Some, None, is_some, unwrap_or}
 use Rattle.std.specs.List.{fold}
 use Rattle.std.proofs.lemmas.List.Sums.{fold_more}
 use lib.Seq.{take_all}
 use Rattle.delta.specs.declared.Accumulator.{Accumulator}
-use Rattle.delta.specs.declared.Accumulator.TheVariants.{Empty}
+use Rattle.delta.specs.declared.Accumulator.TheVariants.{Empty, Gathered, Failed}
 use Rattle.delta.specs.declared.DeltaOp.{DeltaOp}
 use Rattle.delta.specs.Delta.{Delta, Accumulated, nothing, merged, failed, accumulate, accumulate_all}
 use Rattle.delta.specs.Record.{exact, valid_op}
 use Rattle.delta.specs.Op.{exactly, accumulator_of, accumulate_op, valid_ops, fold_records}
+
+-- ---- the lent merge: its answer and the lent delta together are the merge by value
+
+pub merged_if_lem : (ok : Bool) (d : Delta) → ok ≡ true → ◌≡◌ {A = Option Delta} (Some d) (cond ok (Some d) None)
+merged_if_lem ok d e = rw e
+
+pub merged_if_same : (n d : Delta) (m r : Option Delta) (ok : Bool) → r ≡ cond ok (Some d) None → ok ≡ is_some m → d ≡ unwrap_or m n → r ≡ m
+merged_if_same n d m r ok e f g = e ∙ rw (f, g) (back m)
+  where
+    back : (x : Option Delta) → cond (is_some x) (Some (unwrap_or x n)) None ≡ x
+    back (Some y) = refl
+    back None = refl
+
+-- ---- what the code's walk has gathered, there and back
 
 pub exactly_accumulator_of : (a : Accumulated) → exactly (accumulator_of a) ≡ a
 unfolding exactly accumulator_of
 exactly_accumulator_of nothing = refl
 exactly_accumulator_of (merged d) = refl
 exactly_accumulator_of failed = refl
+
+pub accumulator_of_exactly : (a : Accumulator) → accumulator_of (exactly a) ≡ a
+unfolding exactly accumulator_of
+accumulator_of_exactly Empty = refl
+accumulator_of_exactly (Gathered d) = refl
+accumulator_of_exactly Failed = refl
 
 accumulate_all_failed : (ds : List Delta) → accumulate_all failed ds ≡ failed
 unfolding accumulate_all accumulate

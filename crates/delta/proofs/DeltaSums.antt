@@ -1,4 +1,4 @@
--- What the code's signed sums find, each as one equation between the answer and plain numbers.
+-- What the signed sums and reaches of the code find.
 -- Assumes nothing.
 use Rattle.std.proofs.Common.{◌≡◌, ℕ, zero, suc, ◌+◌, ◌-◌, ◌<◌, ◌≤◌, max, Bool, true, false, cond, not, ◌&&◌, eqb, ltb, ℤ, pos, neg_ℤ, nat_abs, ◌+ℤ◌, ◌-ℤ◌, Option, Some, None, refl, sym, ap, ◌∙◌, arith}
 use lib.IntN.{+ℤ_comm}

@@ -1,4 +1,5 @@
 mod DeltaCases
+mod LentWalks
 pub mod DeltaFormat
 pub mod DeltaGains
 pub mod DeltaMerges

@@ -1,7 +1,7 @@
 -- The code's answers, tied to those on the exact deltas of `Delta`.
 -- Assumes nothing.
 use Rattle.std.specs.Prelude.{Bool, true, cond, ◌&&◌, List, [], ◌∷◌, map, ℕ, leb, ltb, ℤ, nat_abs, Some, None}
-use Rattle.std.specs.Prelude.{Option as MayBe}
+use Rattle.std.specs.Prelude as rust
 use Rattle.std.proofs.Math.Option.{Option, none, some}
 use Rattle.number.specs.declared.Number.{Number}
 use Rattle.number.specs.Number.{range, value_of, number_of}
@@ -12,16 +12,17 @@ use Rattle.delta.specs.declared.DeltaOp.{DeltaOp}
 use Rattle.delta.specs.declared.Accumulator.{Accumulator}
 use Rattle.delta.specs.declared.Accumulator.TheVariants.{Empty, Gathered, Failed}
 
--- ---- the code's answers
+-- ---- the code's answers, in Rust's `Option`
 
-unfoldable pub applied_of : Option ℕ → MayBe Number
+unfoldable pub applied_of : Option ℕ → rust.Option Number
 applied_of (some v) = Some (number_of v)
 applied_of none = None
 
-unfoldable pub merged_of : Option Delta → MayBe Delta
+unfoldable pub merged_of : Option Delta → rust.Option Delta
 merged_of (some d) = Some d
 merged_of none = None
 
+-- what the code's walk has gathered, and back
 unfoldable pub exactly : Accumulator → Accumulated
 exactly Empty = nothing
 exactly (Gathered d) = merged d
@@ -37,11 +38,11 @@ unfoldable pub integer_of : Signed → ℤ
 integer_of s = signed s.minus (value_of s.size)
 
 -- a signed number as the code gives it: its size, and whether it is below zero
-unfoldable pub change_of : ℤ → MayBe Signed
+unfoldable pub change_of : ℤ → rust.Option Signed
 change_of z = cond (ltb (nat_abs z) range) (Some (record { size = number_of (nat_abs z); minus = is_minus z })) None
 
 -- a number within a limit, or none where it is beyond
-unfoldable pub reach_of : ℕ → ℕ → MayBe Number
+unfoldable pub reach_of : ℕ → ℕ → rust.Option Number
 reach_of limit v = cond (leb v limit) (Some (number_of v)) None
 
 -- ---- records that anybody may have written
