@@ -1,7 +1,7 @@
 -- `versioned_group_data::collect::collect_tags` meets its contract: what is left decides.
 -- Assumes nothing.
 use mathlib.Core.Path.{◌≡◌}
-use Prim.Native.Nat.{◌+◌, ◌-◌, ◌*◌, ◌≤◌}
+use Prim.Native.Nat.{◌+◌, ◌-◌, ◌*◌}
 use lib.ListN.{drop}
 use Rattle.slots.specs.Slots.{slot_width, slots}
 use Rattle.versioned_group_data.specs.Collected.{tag_bits}

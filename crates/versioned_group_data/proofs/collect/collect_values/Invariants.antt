@@ -1,7 +1,6 @@
 -- `versioned_group_data::collect::collect_values` meets its contract: after k turns, the values of k slots are in place.
 -- Assumes nothing.
 use mathlib.Core.Path.{◌≡◌}
-use Prim.Native.Nat.{◌-◌, ◌≤◌}
 use lib.ListN.{length}
 use Rattle.versioned_group_data.proofs.CollectedTurns.{values_in}
 use Rattle.versioned_group_data.proofs.collect.collect_values.Given as goal

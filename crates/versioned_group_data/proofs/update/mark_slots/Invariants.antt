@@ -1,7 +1,6 @@
 -- `versioned_group_data::update::mark_slots` meets its contract: after j turns, j slots are marked.
 -- Assumes nothing.
 use mathlib.Core.Path.{◌≡◌}
-use Prim.Native.Nat.{◌-◌, ◌≤◌}
 use lib.ListN.{length}
 use Rattle.versioned_group_data.proofs.UpdateMarking.{marked_to}
 use Rattle.versioned_group_data.proofs.update.mark_slots.Given as goal
