@@ -32,8 +32,8 @@ use Rattle.versioned_data.specs.Left.{LeftBy}
 use Rattle.versioned_data.specs.Found.{row_found, Here, FoundIn, PutOver}
 use Rattle.versioned_data.specs.Output.{refusal_output, output_of}
 use Rattle.versioned_data.specs.Materialize.{materialized_read, materialized_of, Materializes, shortcut_entry}
-use Rattle.versioned_data.specs.declared.find.Found.{Found}
-use Rattle.versioned_data.specs.declared.find.Found.TheVariants.{There, Absent}
+use Rattle.std.specs.Prelude.{Result, Ok, Err}
+use Rattle.directory.specs.declared.cells.Place.{Place}
 use Rattle.versioned_data.specs.declared.materialize.Materialized.{Materialized}
 use Rattle.versioned_data.specs.declared.materialize.Materialized.TheVariants.{Refused, Resolved, Unresolved}
 use Rattle.versioned_data.proofs.EntriesHeld.{every_valid}
@@ -68,27 +68,27 @@ shortcut_fine : (p : ℕ) → 0 < p → (n : ℕ) (u : StoreRow) → n < range �
 unfolding shortcut_entry
 shortcut_fine p above n u h f = shortcut_cell p above (entry_of u).held.estimate n (entry_of u).held.cell (number_tell n h) f
 
-module _ (s : List ℕ) (v : data_valid s ≡ true) (k p : ℕ) (big : k < 4294967296) (small : p < 4294967296) (above : 0 < p) (n : Number) (f : Found) (t : FoundIn s k p f) (page i : ℕ) where
-  pub resolve_refused : f ≡ Absent page i → Materializes s k p (record_shortcut (value_of n)) (resolved (value_of n)) (Refused nothing_there) s
+module _ (s : List ℕ) (v : data_valid s ≡ true) (k p : ℕ) (big : k < 4294967296) (small : p < 4294967296) (above : 0 < p) (n : Number) (f : Result Place Place) (t : FoundIn s k p f) (c : Place) where
+  pub resolve_refused : f ≡ Err c → Materializes s k p (record_shortcut (value_of n)) (resolved (value_of n)) (Refused nothing_there) s
   resolve_refused e =
-      let m : record_shortcut (value_of n) (find k p (entries_in s)) ≡ refuse nothing_there = record_none (value_of n) (find k p (entries_in s)) (found_gone s k p f t page i e).entry in
+      let m : record_shortcut (value_of n) (find k p (entries_in s)) ≡ refuse nothing_there = record_none (value_of n) (find k p (entries_in s)) (found_gone s k p f t c e).entry in
       record {
         answer = answer_refused (record_shortcut (value_of n) (find k p (entries_in s))) (resolved (value_of n)) nothing_there m;
         left = left_refused s k p (record_shortcut (value_of n) (find k p (entries_in s))) nothing_there m;
       }
 
-  pub resolve_done : f ≡ There page i → Halves n → (after : List ℕ) → PutOver s page i (shortcut_entry (value_of n) (row_found s page i)) after →
+  pub resolve_done : f ≡ Ok c → Halves n → (after : List ℕ) → PutOver s c.page c.cell (shortcut_entry (value_of n) (row_found s c.page c.cell)) after →
       Materializes s k p (record_shortcut (value_of n)) (resolved (value_of n)) (Resolved n) after
   resolve_done e h after put =
-      let x : Here s k p page i = found_here s k p f t page i e in
-      let u : StoreRow = row_found s page i in
+      let x : Here s k p c.page c.cell = found_here s k p f t c e in
+      let u : StoreRow = row_found s c.page c.cell in
       let a : Entry = shortcut_entry (value_of n) u in
       let m : record_shortcut (value_of n) (find k p (entries_in s)) ≡ accept (response resolved_kind (digits 4 (value_of n))) (Rows.set a) = record_some (value_of n) (find k p (entries_in s)) u x.entry in
       record {
         answer = answer_resolved (record_shortcut (value_of n) (find k p (entries_in s))) n (response resolved_kind (digits 4 (value_of n))) (Rows.set a) h m;
         left =
-            (edited_over s v k p big small page i x (record_shortcut (value_of n)) (response resolved_kind (digits 4 (value_of n))) a after m
-            (entry_fine k p a big small (shortcut_fine p above (value_of n) u (value_below n h) (cell_at s v k p big small page i x))) put).left;
+            (edited_over s v k p big small c.page c.cell x (record_shortcut (value_of n)) (response resolved_kind (digits 4 (value_of n))) a after m
+            (entry_fine k p a big small (shortcut_fine p above (value_of n) u (value_below n h) (cell_at s v k p big small c.page c.cell x))) put).left;
       }
 
 -- ---- where it does not
