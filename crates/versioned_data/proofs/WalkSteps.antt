@@ -2,7 +2,7 @@
 -- Assumes nothing.
 use mathlib.Core.Path.{◌≡◌, refl, sym, ◌∙◌, ap}
 use mathlib.Core.Bool.{Bool, true, false}
-use Rattle.std.specs.Prelude.{Option, Some, None, ◌&&◌}
+use Rattle.std.specs.Prelude.{Option, Some, None}
 use Rattle.directory.specs.declared.cells.Place.{Place}
 use mathlib.Core.List.{List, [], ◌∷◌, ◌++◌}
 use Prim.Native.Nat.{ℕ, zero, suc, ◌+◌, ◌-◌, ◌/◌, ◌%◌, ◌≤◌, ◌<◌}
@@ -45,7 +45,7 @@ use Rattle.versioned_data.specs.Rows.{rows_of, row_of_place, DataStore, position
 use Rattle.versioned_data.specs.Output.{output_of}
 use Rattle.versioned_data.specs.Step.{has_key, goes_on, deltas_in}
 use Rattle.versioned_data.proofs.RowsDown.{down_end, down_other, down_here}
-use Rattle.versioned_data.proofs.RowParts.{form_small, row_form, row_delta_valid, row_delta_ok, step_estimate, step_write, step_delta, step_shortcut}
+use Rattle.versioned_data.proofs.RowParts.{row_delta_valid, row_delta_ok, step_estimate, step_write, step_delta, step_shortcut}
 use Rattle.versioned_data.proofs.ContentWords.{part_of, word_of_lem, value_of_lem, content_inside, payload_is}
 
 -- ---- the row at a position

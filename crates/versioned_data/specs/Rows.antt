@@ -1,9 +1,12 @@
 -- A data store of n units as code that reads rows knows it, and a place among its rows.
-use Rattle.std.specs.Prelude.{◌≡◌, true, false, List, ℕ, IfSome, Option, length, get_or}
+use Rattle.std.specs.Prelude.{◌≡◌, true, false, List, ℕ, IfSome, Option, get_or}
 use Rattle.lists.specs.Lists.{every}
 use Rattle.directory.specs.declared.cells.Place.{Place}
 use Rattle.store.specs.Held.{held, position_of, position_or_end, no_row}
 use Rattle.store.specs.Valid.{Valid, There}
+use Rattle.model.specs.Rows.{Row}
+use Rattle.model.specs.Data.{Entry}
+use Rattle.versioned_data.specs.Down.{down_rows}
 use Rattle.versioned_data.specs.Layout.{payload_width, StoreRow, row_ok}
 use Rattle.versioned_data.specs.Step.{has_key}
 
@@ -26,6 +29,10 @@ Met n s at = IfSome at (λ p. There payload_width n s p.page p.cell)
 
 abbrev pub position_from : ℕ → List ℕ → Option Place → ℕ
 position_from n s at = position_or_end payload_width n s at
+
+-- The entries of a key from a place down.
+abbrev pub down_place : ℕ → List ℕ → ℕ → Option Place → List (Row Entry)
+down_place n s key at = down_rows key (position_from n s at) (rows_of n s)
 
 -- The row at a place is the one at position c, and has the key.
 pub record OfKey (n : ℕ) (s : List ℕ) (key c : ℕ) (p : Place) : Type 0 where

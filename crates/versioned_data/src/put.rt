@@ -24,11 +24,7 @@ fn put_words(s: &mut [u32], b: usize, t: &[u32], at: usize, m: usize)
     requires inside { at + m ≤ length t.now }
     ensures put { s.new ≡ copied b t.now at m s.old }
 {
-    let mut j = 0;
-    while j < m {
-        s[b + j] = t[at + j];
-        j += 1;
-    }
+    s[b..b + m].copy_from_slice(&t[at..at + m]);
 }
 
 // The words of a write: its incarnation, and the value at `at` of a request's words.

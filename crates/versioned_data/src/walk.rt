@@ -10,8 +10,7 @@ ghost use Rattle.types.specs.ValueWithLayout.{words_of};
 ghost use Rattle.store.specs.Valid.{There};
 ghost use Rattle.model.specs.Data.{at_end, onto, below_deltas, at_write, dependency, versioned, walk, read_of};
 ghost use Rattle.versioned_data.specs.Layout.{payload_width, delta_in, entry_of, row_ok};
-ghost use Rattle.versioned_data.specs.Down.{down_rows};
-ghost use Rattle.versioned_data.specs.Rows.{rows_of, row_of_place, Met, position_from, OfKey};
+ghost use Rattle.versioned_data.specs.Rows.{rows_of, row_of_place, Met, position_from, down_place, OfKey};
 ghost use Rattle.versioned_data.specs.Step.{has_key, deltas_in};
 ghost use Rattle.versioned_data.specs.Output.{output_of};
 
@@ -188,7 +187,7 @@ impl<'a> Entries<'a> {
     fn deltas(self, key: u32, at: Option<Place>, met: usize) -> usize
         requires met { Met self.rows.units self.rows.words.now at }
         requires few { met ≤ position_from self.rows.units self.rows.words.now at }
-        ensures deltas { result ≡ met + deltas_in (down_rows key (position_from self.entry.rows.units self.entry.rows.words.now at) (rows_of self.entry.rows.units self.entry.rows.words.now)) }
+        ensures deltas { result ≡ met + deltas_in (down_place self.entry.rows.units self.entry.rows.words.now key at) }
     {
         let Some(p) = self.of_key(key, at) else {
             return met;
@@ -202,7 +201,7 @@ impl<'a> Entries<'a> {
     // The walk from a place down: past the deltas, which are merged one after the other, to where it stops.
     pub fn walk(self, key: u32, start: Option<Place>) -> MVDataOutput
         requires met { Met self.rows.units self.rows.words.now start }
-        ensures found { result ≡ output_of (read_of (down_rows key (position_from self.entry.rows.units self.entry.rows.words.now start) (rows_of self.entry.rows.units self.entry.rows.words.now))) }
+        ensures found { result ≡ output_of (read_of (down_place self.entry.rows.units self.entry.rows.words.now key start)) }
     {
         let rest = self.deltas(key, start, 0);
         let mut at = start;
@@ -223,16 +222,16 @@ impl<'a> Entries<'a> {
     // The walk with nothing gathered. Nearly every read ends at a write right there, which is answered without the walk's accumulator.
     pub fn read_from(self, key: u32, at: Option<Place>) -> MVDataOutput
         requires met { Met self.rows.units self.rows.words.now at }
-        ensures found { result ≡ output_of (read_of (down_rows key (position_from self.entry.rows.units self.entry.rows.words.now at) (rows_of self.entry.rows.units self.entry.rows.words.now))) }
+        ensures found { result ≡ output_of (read_of (down_place self.entry.rows.units self.entry.rows.words.now key at)) }
     {
-        let Some(p) = self.of_key(key, at) else {
+        let Some(row) = self.of_key(key, at) else {
             return MVDataOutput::Uninitialized;
         };
-        if self.rows.marks_at(p) != 0 {
+        if self.rows.marks_at(row) != 0 {
             return self.walk(key, at);
         }
-        let b = self.rows.content_at(p);
-        let place = ShiftedTxnIndex::from_word(self.rows.place_at(p));
+        let b = self.rows.content_at(row);
+        let place = ShiftedTxnIndex::from_word(self.rows.place_at(row));
         versioned(self.rows.words, b, place)
     }
 }

@@ -1,6 +1,5 @@
 -- `versioned_data::scan::rows_ok` meets its contract.
 -- Assumes nothing.
-use mathlib.Core.Path.{◌∙◌}
 use native.Mathlib.Omega.{arith}
 use Rattle.versioned_data.proofs.ScanSteps.{first_stands, rows_start, rows_bad, rows_less, rows_on, rows_end}
 use Rattle.versioned_data.proofs.scan.rows_ok.Goals as goal

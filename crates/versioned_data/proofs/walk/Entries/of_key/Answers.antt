@@ -1,6 +1,6 @@
 -- `versioned_data::walk::Entries::of_key` meets its contract.
 -- Assumes nothing.
-use Rattle.versioned_data.proofs.WalkSteps.{from_none, from_there, from_other, from_own}
+use Rattle.versioned_data.proofs.WalkSteps.{from_none, from_other, from_own}
 use Rattle.versioned_data.proofs.walk.Entries.of_key.Goals as goal
 
 pub returns-in_default-clause-other : goal.returns-in_default-clause-other
