@@ -9,12 +9,13 @@ use lib.ListN.{length}
 use Rattle.std.specs.Prelude.{Ok, Err}
 use borrow.Author.Tests.{ltb-true, eqb-true, not-true, not-false}
 use Rattle.lists.proofs.Bools.{and_left, and_right, and_three}
-use Rattle.types.specs.Refusal.{wrong_count, bad_field, index_too_high}
+use Rattle.types.specs.Refusal.{wrong_count, bad_field, index_too_high, refusal_number, result_number}
 use Rattle.request.specs.Table.{by_set, longest_of, longest_count}
 use Rattle.request.specs.Request.{row_at, count_of, tags_by, tags, tail_length, tail_ok, count_ok, shape_ok, fields_ok, index_ok, refusal_of}
 use Rattle.request.specs.Fields.{kind_at, fields_at}
 use Rattle.request.specs.Checked.{refusal_named, check_of}
 use Rattle.request.specs.declared.asked.Fields.{Fields}
+use Rattle.types.specs.declared.refusal.Refusal.{Refusal}
 use Rattle.types.specs.declared.refusal.Refusal.TheVariants.{WrongCount, BadField, IndexTooHigh}
 use Rattle.request.proofs.KindNumbers.{there_small}
 use Rattle.request.proofs.Shapes.{row_at_bounds, shape_empty}
@@ -137,3 +138,22 @@ module _ (t : List ℕ) where
         served = none_index (shape_ok t) (fields_ok (row_at t).kind t) (index_ok t) p;
         fields = by_fields (eqb (refusal_of t) 0) (refusal_of t) (fields_at t) f h;
       }
+
+-- ---- the whole check, by its number
+
+number_by : (a b c : Bool) (g : Fields)
+    → result_number (cond (eqb (refusal_by a b c) 0) (Ok g) (Err (refusal_named (refusal_by a b c)))) ≡ refusal_by a b c
+unfolding refusal_by
+number_by true true true g = refl
+number_by true true false g = refl
+number_by true false c g = refl
+number_by false b c g = refl
+
+module _ (t : List ℕ) where
+  pub check_number : result_number (check_of t) ≡ refusal_of t
+  unfolding check_of
+  check_number =
+      rw (refusal_parts t) (number_by (shape_ok t) (fields_ok (row_at t).kind t) (index_ok t) (fields_at t))
+
+  pub refused_told : (refusal : Refusal) → check_of t ≡ Err refusal → refusal_number refusal ≡ refusal_of t
+  refused_told refusal e = rw e at check_number

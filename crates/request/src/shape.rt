@@ -30,7 +30,7 @@ fn count_ok(t: &[u32], head: Head) -> bool
     ensures rule { result ≡ count_ok (row_at t.now).tail (row_at t.now).fixed t.now }
 {
     let row = head.row;
-    match row.tail {
+    match head.row.tail {
         Tail::Alone => head.count == row.fixed,
         Tail::BySet(each) => head.count == row.fixed + each as usize * set_at(t, row).len(),
         Tail::ByCount(place, most, each) => {
