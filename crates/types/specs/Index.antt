@@ -1,8 +1,7 @@
 -- 01, "Index": "A transaction index is a u32. A shifted index is the transaction index plus 1; shifted 0 is the base."
-use Rattle.std.specs.Prelude.{ℕ, zero, suc, ◌+◌}
+use Rattle.std.specs.Prelude.{ℕ, zero, suc, ◌+◌, Result, Ok, Err}
 use Rattle.types.specs.declared.index.ShiftedTxnIndex.{ShiftedTxnIndex}
-use Rattle.types.specs.declared.index.IndexOrStorage.{IndexOrStorage}
-use Rattle.types.specs.declared.index.IndexOrStorage.TheVariants.{Index, StorageVersion}
+use Rattle.types.specs.declared.index.StorageVersion.{StorageVersion}
 
 abbrev pub shift : ℕ → ℕ
 shift index = index + 1
@@ -23,6 +22,6 @@ abbrev pub word_of : ShiftedTxnIndex → ℕ
 word_of index = index.0
 
 -- What the word of a shifted index stands for.
-unfoldable pub index_of : ℕ → IndexOrStorage
-index_of zero = StorageVersion
-index_of (suc index) = Index index
+unfoldable pub index_of : ℕ → Result ℕ StorageVersion
+index_of zero = Err (record {})
+index_of (suc index) = Ok index

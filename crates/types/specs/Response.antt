@@ -1,6 +1,8 @@
 -- 01: "Ticket head: bits 28-31 kind, bits 0-27 count of words after it"; "Answer head, same shape". The kinds of answers, and the longest.
 use Rattle.std.specs.Prelude.{List, ◌∷◌, ℕ, ◌+◌, ◌*◌, ◌/◌, ◌%◌, ◌^◌, length}
 use Rattle.types.specs.Value.{value_width}
+use Rattle.types.specs.declared.response.AnswerKind.{AnswerKind}
+use Rattle.types.specs.declared.response.AnswerKind.TheVariants.{Done, Versioned, Resolved, Unresolved, Uninitialized, TagNotFound, Dependency, DeltaApplicationFailure, Size, Committed, WroteOutside, VersionedAtBase}
 
 -- A head, and what it says.
 abbrev pub head_of : ℕ → ℕ → ℕ
@@ -53,6 +55,21 @@ wrote_outside_kind = 10
 
 abbrev pub versioned_at_base_kind : ℕ
 versioned_at_base_kind = 11
+
+-- The number of each kind of answer of the code.
+abbrev pub answer_number : AnswerKind → ℕ
+answer_number Done = done_kind
+answer_number Versioned = versioned_kind
+answer_number Resolved = resolved_kind
+answer_number Unresolved = unresolved_kind
+answer_number Uninitialized = uninitialized_kind
+answer_number TagNotFound = tag_not_found_kind
+answer_number Dependency = dependency_kind
+answer_number DeltaApplicationFailure = application_failure_kind
+answer_number Size = size_kind
+answer_number Committed = committed_kind
+answer_number WroteOutside = wrote_outside_kind
+answer_number VersionedAtBase = versioned_at_base_kind
 
 -- "A tag is 0 to 63. A set is two words"
 abbrev pub most_tags : ℕ

@@ -1,15 +1,14 @@
 -- A value as a struct and as its words (01, "Value, 7 words"): the struct's answers are those of `Value` on its words.
-use Rattle.std.specs.Prelude.{cond, List, ◌∷◌, ℕ, ◌^◌, ◌<◌, get_or}
-use Rattle.std.proofs.Math.Option.{Option, none, some}
+use Rattle.std.specs.Prelude.{cond, List, ◌∷◌, ℕ, ◌^◌, ◌<◌, get_or, Option, Some, None, Result, Ok, Err}
+use Rattle.std.proofs.Math.Option.{none, some}
+use Rattle.std.proofs.Math.Option.{Option as Maybe}
+use Rattle.number.specs.declared.Number.{Number}
 use Rattle.number.specs.Number.{Halves, number_of}
 use Rattle.number.specs.Number.{value_of as numberValue}
 use Rattle.number.specs.Words.{digits}
 use Rattle.types.specs.Value.{number_in, bytes_len, is_deletion, has_number}
 use Rattle.types.specs.declared.value.ValueWithLayout.{ValueWithLayout}
-use Rattle.types.specs.declared.value.BytesLen.{BytesLen}
-use Rattle.types.specs.declared.value.BytesLen.TheVariants.{Length, NoBytes}
-use Rattle.types.specs.declared.value.AsU128.{AsU128}
-use Rattle.types.specs.declared.value.AsU128.TheVariants.{Deleted, Value, NotANumber}
+use Rattle.types.specs.declared.value.NotANumber.{NotANumber}
 
 unfoldable pub value_from : List ℕ → ValueWithLayout
 value_from ws =
@@ -18,16 +17,16 @@ value_from ws =
 unfoldable pub words_of : ValueWithLayout → List ℕ
 words_of v = v.head ∷ v.layout ∷ v.handle ∷ digits 4 (numberValue v.number)
 
-unfoldable pub length_answer : Option ℕ → BytesLen
-length_answer none = NoBytes
-length_answer (some n) = Length n
+unfoldable pub length_answer : Maybe ℕ → Option ℕ
+length_answer none = None
+length_answer (some n) = Some n
 
-unfoldable pub bytes_len_of : List ℕ → BytesLen
+unfoldable pub bytes_len_of : List ℕ → Option ℕ
 bytes_len_of ws = length_answer (bytes_len ws)
 
 -- What deltas above a value find: a deletion, a number, or neither.
-unfoldable pub as_u128_of : List ℕ → AsU128
-as_u128_of ws = cond (is_deletion ws) Deleted (cond (has_number ws) (Value (number_of (number_in ws))) NotANumber)
+unfoldable pub as_u128_of : List ℕ → Result (Option Number) NotANumber
+as_u128_of ws = cond (is_deletion ws) (Ok None) (cond (has_number ws) (Ok (Some (number_of (number_in ws)))) (Err (record {})))
 
 -- What the fields of a struct that code holds keep to.
 pub record Fits (v : ValueWithLayout) : Type 0 where

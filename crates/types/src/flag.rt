@@ -2,10 +2,10 @@
 ghost use Rattle.std.specs.Prelude.{◌≡◌};
 ghost use Rattle.types.specs.Flag.{flag_word};
 
-#[derive(Clone, Copy)]
+#[derive(Clone, Copy, Debug, PartialEq, Eq)]
 pub enum Flag {
-    Done,
-    Estimate,
+    Done = 0,
+    Estimate = 1,
 }
 
 impl Flag {
@@ -13,9 +13,6 @@ impl Flag {
     pub fn word(self) -> u32
         ensures stored { result ≡ flag_word self }
     {
-        match self {
-            Flag::Done => 0,
-            Flag::Estimate => 1,
-        }
+        self as u32
     }
 }

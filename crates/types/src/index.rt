@@ -9,14 +9,13 @@ pub type Incarnation = u32;
 // To keep a base value at the lowest index without conflicting with transaction index 0, this
 // wraps the index and increments it by 1. The field is private: a count of the one kind never
 // meets a count of the other but through these conversions.
-#[derive(Clone, Copy)]
+// Kept: no From<u32>, since a word is an index or a shifted one, and a conversion by its type would take the one for the other.
+#[derive(Clone, Copy, Debug, PartialEq, Eq, PartialOrd, Ord)]
 pub struct ShiftedTxnIndex(u32);
 
-#[derive(Clone, Copy)]
-pub enum IndexOrStorage {
-    Index(TxnIndex),
-    StorageVersion,
-}
+// What the base has in place of an index.
+#[derive(Clone, Copy, Debug, PartialEq, Eq)]
+pub struct StorageVersion;
 
 impl ShiftedTxnIndex {
     pub fn new(real_idx: TxnIndex) -> Self
@@ -26,14 +25,10 @@ impl ShiftedTxnIndex {
         ShiftedTxnIndex(real_idx + 1)
     }
 
-    pub fn idx(self) -> IndexOrStorage
+    pub fn idx(self) -> Result<TxnIndex, StorageVersion>
         ensures unshifted { result ≡ index_of (word_of self) }
     {
-        let shifted = self.0;
-        if shifted > 0 {
-            return IndexOrStorage::Index(shifted - 1);
-        }
-        IndexOrStorage::StorageVersion
+        self.0.checked_sub(1).ok_or(StorageVersion)
     }
 
     pub fn zero_idx() -> Self

@@ -1,4 +1,5 @@
-// What reads find: the Rust's `MVDataOutput` and `MVDataError` in one enum, and so for groups.
+// What reads find: the Rust's `MVDataOutput` and `MVDataError` in one enum, and so for groups. A read that is refused, as over a value with a layout below
+// deltas, finds none of it.
 use super::index::{Incarnation, ShiftedTxnIndex, TxnIndex};
 use super::value::ValueWithLayout;
 use delta::DeltaOp;
@@ -16,10 +17,6 @@ pub enum MVDataOutput {
     // An estimate of another transaction is in the way.
     Dependency(TxnIndex),
     DeltaApplicationFailure,
-    // Refusal 9: a value with a layout below deltas.
-    LayoutUnderDelta,
-    // Refusal 10: a value below deltas that is no number and no deletion.
-    NoNumberUnderDelta,
 }
 
 #[derive(Clone, Copy)]

@@ -1,35 +1,37 @@
 // Heads, of requests and of answers, and the kinds of answers.
 ghost use Rattle.std.specs.Prelude.{◌≡◌, ◌^◌, ◌≤◌, ◌<◌};
-ghost use Rattle.types.specs.Response.{head_of, kind_in, count_in};
+ghost use Rattle.types.specs.Response.{head_of, kind_in, count_in, answer_number};
 
 use super::value::VALUE_WIDTH;
 
 // Bits 28 to 31 of a head are a kind, bits 0 to 27 count the words after it.
 pub const KIND_RANGE: u32 = 268435456;
 
-pub const DONE: u32 = 0;
+// What an answer tells.
+#[derive(Clone, Copy, Debug, PartialEq, Eq)]
+pub enum AnswerKind {
+    Done = 0,
+    Versioned = 1,
+    Resolved = 2,
+    Unresolved = 3,
+    Uninitialized = 4,
+    TagNotFound = 5,
+    Dependency = 6,
+    DeltaApplicationFailure = 7,
+    Size = 8,
+    Committed = 9,
+    WroteOutside = 10,
+    VersionedAtBase = 11,
+}
 
-pub const VERSIONED: u32 = 1;
-
-pub const RESOLVED: u32 = 2;
-
-pub const UNRESOLVED: u32 = 3;
-
-pub const UNINITIALIZED: u32 = 4;
-
-pub const TAG_NOT_FOUND: u32 = 5;
-
-pub const DEPENDENCY: u32 = 6;
-
-pub const DELTA_APPLICATION_FAILURE: u32 = 7;
-
-pub const SIZE: u32 = 8;
-
-pub const COMMITTED: u32 = 9;
-
-pub const WROTE_OUTSIDE: u32 = 10;
-
-pub const VERSIONED_AT_BASE: u32 = 11;
+impl AnswerKind {
+    // The number in a head.
+    pub fn number(self) -> u32
+        ensures number { result ≡ answer_number self }
+    {
+        self as u32
+    }
+}
 
 // Tags are 0 to 63, and a set of them has two words.
 pub const MOST_TAGS: usize = 64;

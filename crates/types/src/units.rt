@@ -7,6 +7,7 @@ use super::refusal;
 use super::refusal::Refusal;
 
 // How many units a store has.
+#[tactic(auto, unfolding(crate::specs::Units::units_in))]
 pub fn units(s: &[u32]) -> usize
     ensures units { result ≡ units_in (length s.now) }
 {
@@ -14,6 +15,7 @@ pub fn units(s: &[u32]) -> usize
 }
 
 // For the units that a store would hold and those that it has.
+#[tactic(auto, unfolding(crate::specs::Units::lack_of))]
 pub fn enough(held: usize, slots: usize) -> Result<(), Refusal>
     ensures lack { result_number result ≡ lack_of held slots }
 {
@@ -24,6 +26,7 @@ pub fn enough(held: usize, slots: usize) -> Result<(), Refusal>
 }
 
 // For the units that a store would hold and those that it has: 0 where they suffice, else the number of the refusal.
+#[tactic(auto, unfolding(crate::specs::Units::lack_of))]
 pub fn lack_of(held: usize, slots: usize) -> u32
     ensures lack { result ≡ lack_of held slots }
 {
