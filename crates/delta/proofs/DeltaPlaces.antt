@@ -1,25 +1,23 @@
 -- What reading and writing a delta at a place of a slice finds.
 -- Assumes nothing.
 use mathlib.Core.Path.{◌≡◌, sym, ap, ◌∙◌}
-use mathlib.Core.Bool.{Bool, true, false, not, cond}
+use mathlib.Core.Bool.{Bool}
 use mathlib.Core.List.{List, [], ◌∷◌, ◌++◌}
 use Prim.Native.Nat.{ℕ, zero, suc, ◌+◌, ◌≤◌}
 use native.Mathlib.Nat.{zero-add, suc-add}
 use native.Mathlib.Omega.{arith}
-use lib.Dec.{eqb}
 use lib.ListN.{length, take, drop, get_or, set, length-append}
 use lib.Seq.{sets, take-take, drop-drop, take-nil, get_or-take, get_or-drop}
-use borrow.Author.Tests.{eqb-true}
 use Rattle.number.specs.declared.Number.{Number}
 use Rattle.number.specs.Number.{value_of, number_of}
 use Rattle.number.specs.Words.{digits, value_of_words}
 use Rattle.number.proofs.Digits.{length_digits}
 use Rattle.number.proofs.SetRuns.{sets_then}
 use Rattle.delta.specs.declared.DeltaOp.{DeltaOp}
-use Rattle.delta.specs.Delta.{delta_width, is_minus, is_negative, signed, sign_word, number_at, minus_zero, delta_ok, delta_words}
-use Rattle.delta.specs.Op.{exact, op_at, valid_op}
-use Rattle.delta.proofs.DeltaFormat.{size_signed, minus_signed, not_zero, plus_fine, zero_plus}
-use Rattle.delta.proofs.DeltaOps.{valid_op_op_at}
+use Rattle.delta.specs.Delta.{delta_width, is_negative, sign_word, number_at, delta_ok, delta_words}
+use Rattle.delta.specs.Record.{exact, op_at, valid_op}
+use Rattle.delta.proofs.DeltaFormat.{size_signed}
+use Rattle.delta.proofs.RecordLaws.{valid_op_op_at}
 
 -- ---- reading
 
@@ -62,21 +60,6 @@ module _ (s : List ℕ) (at : ℕ) where
   checked_op o t e f = f ∙ ap valid_op e ∙ valid_op_op_at (take delta_width (drop at s))
 
 -- ---- writing
-
-module _ (o : DeltaOp) where
-  sign_plain : not (minus_zero (is_negative o.sign) (value_of o.update)) ≡ true → cond (is_negative o.sign) 1 0 ≡ sign_word (exact o).update
-  unfolding sign_word exact
-  sign_plain h = rw (minus_signed (is_negative o.sign) (value_of o.update) h)
-
-  pub sign_zero : eqb (value_of o.update) 0 ≡ true → 0 ≡ sign_word (exact o).update
-  unfolding sign_word exact
-  sign_zero z = sym (ap (λ (x : ℕ). cond (is_minus (signed (is_negative o.sign) x)) 1 0) (eqb-true (value_of o.update) 0 z) ∙ rw (zero_plus (is_negative o.sign)))
-
-  pub sign_minus : eqb (value_of o.update) 0 ≡ false → is_negative o.sign ≡ true → 1 ≡ sign_word (exact o).update
-  sign_minus z m = sym (ap (λ (t : Bool). cond t 1 0) m) ∙ sign_plain (not_zero (is_negative o.sign) (value_of o.update) z)
-
-  pub sign_plus : is_negative o.sign ≡ false → 0 ≡ sign_word (exact o).update
-  sign_plus m = sym (ap (λ (t : Bool). cond t 1 0) m) ∙ sign_plain (rw m (plus_fine (value_of o.update)))
 
 -- five runs of words, one after another
 runs : (s s₁ s₂ s₃ s₄ a b c d : List ℕ) (at w : ℕ) → length a ≡ 4 → length b ≡ 4 → length c ≡ 4 → length d ≡ 4 → s₁ ≡ sets s at a → s₂ ≡ sets s₁ (at + 4) b → s₃ ≡ sets s₂ (at + 8) c → s₄ ≡ sets s₃ (at + 12) d → sets s₄ (at + 16) (w ∷ []) ≡ sets s at (a ++ b ++ c ++ d ++ (w ∷ []))

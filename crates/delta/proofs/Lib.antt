@@ -6,4 +6,4 @@ pub mod DeltaOps
 pub mod DeltaPlaces
 pub mod DeltaRuns
 pub mod DeltaSums
-mod LentWalks
+pub mod RecordLaws

@@ -1,89 +1,88 @@
-// Sums of signed numbers, a size and a sign each, and the greatest that two deltas reach.
-ghost use Rattle.std.specs.Prelude.{◌≡◌, ◌+◌, pos, ◌+ℤ◌, ◌-ℤ◌};
+// Sums of signed numbers, and the greatest that two deltas reach.
+#![tactic(auto, unfolding(number::specs::Number::sum_of, number::specs::Number::difference_of, crate::specs::Op::integer_of, crate::specs::Op::reach_of), using(crate::proofs::DeltaSums::sums))]
+
+ghost use Rattle.std.specs.Prelude.{◌≡◌, ◌+◌, pos, neg_ℤ, ◌+ℤ◌, ◌-ℤ◌};
 ghost use Rattle.number.specs.Number.{value_of};
 ghost use Rattle.delta.specs.Delta.{signed, greater};
-ghost use Rattle.delta.specs.Op.{change_of, reach_of};
+ghost use Rattle.delta.specs.Op.{integer_of, change_of, reach_of};
 
-use number::{Difference, Number, Sum};
+use number::Number;
 
-// A sum of signed numbers: its size, and whether it is below zero.
+// A signed number: its size, and whether it is below zero.
 #[derive(Clone, Copy)]
-pub enum Change {
-    To(Number, bool),
-    // The size is 2^128 or more.
-    Over,
+pub struct Signed {
+    pub size: Number,
+    pub minus: bool,
 }
 
-// How far two deltas reach together.
-#[derive(Clone, Copy)]
-pub enum Reach {
-    Within(Number),
-    Beyond,
+impl Signed {
+    pub fn plus(size: Number) -> Signed
+        ensures plus { integer_of result ≡ pos (value_of size) }
+    {
+        Signed { size, minus: false }
+    }
+
+    pub fn negated(self) -> Signed
+        ensures turned { integer_of result ≡ neg_ℤ (integer_of self) }
+    {
+        Signed {
+            size: self.size,
+            minus: !self.minus,
+        }
+    }
+
+    // self + other, if 128 bits hold its size.
+    pub fn checked_add(self, other: Signed) -> Option<Signed>
+        ensures exact { result ≡ change_of (integer_of self +ℤ integer_of other) }
+    {
+        if self.minus == other.minus {
+            return add_sizes(self.size, other.size, self.minus);
+        }
+        if self.minus {
+            return take_size(other.size, self.size);
+        }
+        take_size(self.size, other.size)
+    }
 }
 
 // Two numbers of the same sign.
-fn add_sizes(a: Number, b: Number, minus: bool) -> Change
+fn add_sizes(a: Number, b: Number, minus: bool) -> Option<Signed>
     ensures exact { result ≡ change_of (signed minus (value_of a + value_of b)) }
 {
-    let Sum::Total(n) = a.checked_add(b) else {
-        return Change::Over;
-    };
-    if n.is_zero() {
-        return Change::To(n, false);
-    }
-    Change::To(n, minus)
+    let size = a.checked_add(b)?;
+    Some(Signed {
+        size,
+        minus: minus && !size.is_zero(),
+    })
 }
 
 // a - b, whichever is greater.
-fn take_size(a: Number, b: Number) -> Change
+fn take_size(a: Number, b: Number) -> Option<Signed>
     ensures exact { result ≡ change_of (pos (value_of a) -ℤ pos (value_of b)) }
 {
-    if let Difference::Rest(n) = a.checked_sub(b) {
-        return Change::To(n, false);
+    if let Some(size) = a.checked_sub(b) {
+        return Some(Signed { size, minus: false });
     }
-    let Difference::Rest(n) = b.checked_sub(a) else {
-        return Change::Over;
-    };
-    Change::To(n, true)
+    let size = b.checked_sub(a)?;
+    Some(Signed { size, minus: true })
 }
 
-// The sum of two signed numbers.
-pub fn add_signed(a: Number, a_minus: bool, b: Number, b_minus: bool) -> Change
-    ensures exact { result ≡ change_of (signed a_minus (value_of a) +ℤ signed b_minus (value_of b)) }
-{
-    if a_minus {
-        if b_minus {
-            return add_sizes(a, b, true);
-        }
-        return take_size(b, a);
-    }
-    if b_minus {
-        return take_size(a, b);
-    }
-    add_sizes(a, b, false)
-}
-
-fn within(limit: Number, v: Number) -> Reach
+fn within(limit: Number, v: Number) -> Option<Number>
     ensures reach { result ≡ reach_of (value_of limit) (value_of v) }
 {
-    if v.le(limit) {
-        return Reach::Within(v);
-    }
-    Reach::Beyond
+    if v <= limit { Some(v) } else { None }
 }
 
 // The greater of `earlier` and of `newer` moved by a signed number, if the limit allows it.
-pub fn reached(limit: Number, earlier: Number, newer: Number, size: Number, minus: bool) -> Reach
-    ensures exact { result ≡ reach_of (value_of limit) (greater (value_of earlier) (pos (value_of newer) +ℤ signed minus (value_of size))) }
+pub fn reached(limit: Number, earlier: Number, newer: Number, by: Signed) -> Option<Number>
+    ensures exact { result ≡ reach_of (value_of limit) (greater (value_of earlier) (pos (value_of newer) +ℤ integer_of by)) }
 {
-    if minus {
-        let Difference::Rest(n) = newer.checked_sub(size) else {
+    if by.minus {
+        let Some(moved) = newer.checked_sub(by.size) else {
             return within(limit, earlier);
         };
-        return within(limit, earlier.max(n));
+        return within(limit, earlier.max(moved));
     }
-    let Sum::Total(n) = newer.checked_add(size) else {
-        return Reach::Beyond;
-    };
-    within(limit, earlier.max(n))
+    let moved = newer.checked_add(by.size)?;
+    within(limit, earlier.max(moved))
 }

@@ -1,10 +1,10 @@
 // A delta in 17 words: M, H, L and the size of u, four words each, low word first, then the sign.
 ghost use Rattle.std.specs.Prelude.{◌≡◌, ◌+◌, ◌≤◌, length, take, drop};
 ghost use Rattle.std.proofs.lemmas.List.Edits.{sets};
-ghost use Rattle.delta.specs.Delta.{delta_width, delta_ok, delta_words, sign_word};
-ghost use Rattle.delta.specs.Op.{exact, op_at};
+ghost use Rattle.delta.specs.Delta.{delta_width, delta_ok, delta_words};
+ghost use Rattle.delta.specs.Record.{exact, op_at};
 
-use super::DeltaOp;
+use crate::DeltaOp;
 
 pub const DELTA_WIDTH: usize = 17;
 
@@ -17,7 +17,7 @@ pub fn read(s: &[u32], at: usize) -> DeltaOp
     let high = number::words::read(s, at + 4);
     let low = number::words::read(s, at + 8);
     let update = number::words::read(s, at + 12);
-    let sign = s[at + 16] as u64;
+    let sign = u64::from(s[at + 16]);
     DeltaOp {
         limit,
         high,
@@ -32,22 +32,7 @@ pub fn is_delta(s: &[u32], at: usize) -> bool
     requires fits { at + delta_width ≤ length s.now }
     ensures checked { result ≡ delta_ok (take delta_width (drop at s.now)) }
 {
-    let delta = read(s, at);
-    delta.is_valid()
-}
-
-// The sign word; zero has the sign of plus.
-fn sign_of(delta: DeltaOp) -> u32
-    ensures sign { result ≡ sign_word (exact delta).update }
-{
-    let update = delta.update;
-    if update.is_zero() {
-        return 0;
-    }
-    if delta.sign != 0 {
-        return 1;
-    }
-    0
+    read(s, at).is_valid()
 }
 
 // Puts a delta into the words at `at`; the other words stay.
@@ -55,14 +40,9 @@ pub fn write(s: &mut [u32], at: usize, delta: DeltaOp)
     requires fits { at + delta_width ≤ length s.old }
     ensures written { s.new ≡ sets s.old at (delta_words (exact delta)) }
 {
-    let limit = delta.limit;
-    let high = delta.high;
-    let low = delta.low;
-    let update = delta.update;
-    number::words::write(s, at, limit);
-    number::words::write(s, at + 4, high);
-    number::words::write(s, at + 8, low);
-    number::words::write(s, at + 12, update);
-    let sign = sign_of(delta);
-    s[at + 16] = sign;
+    number::words::write(s, at, delta.limit);
+    number::words::write(s, at + 4, delta.high);
+    number::words::write(s, at + 8, delta.low);
+    number::words::write(s, at + 12, delta.update);
+    s[at + 16] = delta.sign_word();
 }

@@ -1,4 +1,3 @@
-pub mod AnyBase
 pub mod Digits
 pub mod Halves
 pub mod SetRuns

@@ -1,12 +1,8 @@
 -- A 128-bit number in two 64-bit halves, and what is exact about it.
 -- 01: "u128 becomes two halves"; "Sums are exact, never modulo 2^128, though halves are added with carry".
 -- Assumes nothing.
-use Rattle.std.specs.Prelude.{ℕ, ◌+◌, ◌-◌, ◌*◌, ◌/◌, ◌%◌, ◌^◌, ◌<◌, cond, nat_lt}
+use Rattle.std.specs.Prelude.{ℕ, ◌+◌, ◌-◌, ◌*◌, ◌/◌, ◌%◌, ◌^◌, ◌<◌, cond, nat_lt, Option, Some, None}
 use Rattle.number.specs.declared.Number.{Number}
-use Rattle.number.specs.declared.Sum.{Sum}
-use Rattle.number.specs.declared.Sum.TheVariants.{Total, Over}
-use Rattle.number.specs.declared.Difference.{Difference}
-use Rattle.number.specs.declared.Difference.TheVariants.{Rest, Below}
 
 -- each half is a 64-bit number: what a value of the code's type always is
 pub record Halves (n : Number) : Type 0 where
@@ -33,10 +29,10 @@ carry_of a b = (a + b) / 2 ^ 64
 unfoldable pub borrow_of : ℕ → ℕ → ℕ
 borrow_of a b = cond (nat_lt a b) 1 0
 
--- the exact sum, or `Over` where 128 bits do not hold it
-unfoldable pub sum_of : Number → Number → Sum
-sum_of a b = cond (nat_lt (value_of a + value_of b) range) (Total (number_of (value_of a + value_of b))) Over
+-- the exact sum, or none where 128 bits do not hold it
+unfoldable pub sum_of : Number → Number → Option Number
+sum_of a b = cond (nat_lt (value_of a + value_of b) range) (Some (number_of (value_of a + value_of b))) None
 
--- the exact difference, or `Below` where it is less than zero
-unfoldable pub difference_of : Number → Number → Difference
-difference_of a b = cond (nat_lt (value_of a) (value_of b)) Below (Rest (number_of (value_of a - value_of b)))
+-- the exact difference, or none where it is less than zero
+unfoldable pub difference_of : Number → Number → Option Number
+difference_of a b = cond (nat_lt (value_of a) (value_of b)) None (Some (number_of (value_of a - value_of b)))

@@ -1,9 +1,15 @@
 // 128-bit numbers as two 64-bit halves, by value: sums, differences and comparisons that are
 // exact. Halves are added with carry, and what the two halves do not hold is reported.
-#![tactic(auto)]
+#![tactic(auto, unfolding(crate::specs::Number::range, crate::specs::Number::value_of, crate::specs::Number::number_of, crate::specs::Number::carry_of, crate::specs::Number::borrow_of, crate::specs::Number::sum_of, crate::specs::Number::difference_of))]
 
-ghost use Rattle.std.specs.Prelude.{◌≡◌, max, ◌==◌, nat_le, nat_lt};
+ghost use Rattle.std.specs.Prelude.{◌≡◌, ◌==◌, nat_eq};
+ghost use Rattle.std.specs.Cmp.{partial_order_from_own_ties};
+ghost use Rattle.std.specs.Cmp.Rules.{comparing};
+ghost use Rattle.std.specs.Ordering.{nat_cmp, on, as_partial_cmp};
+ghost use Rattle.std.proofs.Common.{rules};
 ghost use Rattle.number.specs.Number.{value_of, number_of, carry_of, borrow_of, sum_of, difference_of};
+
+use std::cmp::Ordering;
 
 pub mod words;
 
@@ -14,28 +20,12 @@ pub struct Number {
     pub hi: u64,
 }
 
-// What a sum comes to.
-#[derive(Clone, Copy)]
-pub enum Sum {
-    Total(Number),
-    // The sum is 2^128 or more.
-    Over,
-}
-
-// What a difference comes to.
-#[derive(Clone, Copy)]
-pub enum Difference {
-    Rest(Number),
-    // The difference is less than zero.
-    Below,
-}
-
 // The carry of a + b out of 64 bits, 1 or 0: the wrapped sum is less than an addend exactly if
 // the sum wrapped.
 fn carry(a: u64, b: u64) -> u64
     ensures carries { result ≡ carry_of a b }
 {
-    let sum = std::num::wrapping_add_u64(a, b);
+    let sum = a.wrapping_add(b);
     (sum < a) as u64
 }
 
@@ -49,75 +39,95 @@ fn borrow(a: u64, b: u64) -> u64
 impl Number {
     // self + other. The sum is too large exactly if the high halves carry, or their wrapped sum
     // does with the carry of the low halves.
-    pub fn checked_add(self, other: Number) -> Sum
+    pub fn checked_add(self, other: Number) -> Option<Number>
         ensures exact { result ≡ sum_of self other }
     {
         let low_carry = carry(self.lo, other.lo);
-        let lo = std::num::wrapping_add_u64(self.lo, other.lo);
-        let high = std::num::wrapping_add_u64(self.hi, other.hi);
-        let hi = std::num::wrapping_add_u64(high, low_carry);
+        let lo = self.lo.wrapping_add(other.lo);
+        let high = self.hi.wrapping_add(other.hi);
+        let hi = high.wrapping_add(low_carry);
         let over = carry(self.hi, other.hi) + carry(high, low_carry);
         if over == 0 {
-            return Sum::Total(Number { lo, hi });
+            Some(Number { lo, hi })
+        } else {
+            None
         }
-        Sum::Over
     }
 
     // self - other. The difference is less than zero exactly if the high halves borrow, or their
     // wrapped difference does for the borrow of the low halves.
-    pub fn checked_sub(self, other: Number) -> Difference
+    pub fn checked_sub(self, other: Number) -> Option<Number>
         ensures exact { result ≡ difference_of self other }
     {
         let low_borrow = borrow(self.lo, other.lo);
-        let lo = std::num::wrapping_sub_u64(self.lo, other.lo);
-        let high = std::num::wrapping_sub_u64(self.hi, other.hi);
-        let hi = std::num::wrapping_sub_u64(high, low_borrow);
+        let lo = self.lo.wrapping_sub(other.lo);
+        let high = self.hi.wrapping_sub(other.hi);
+        let hi = high.wrapping_sub(low_borrow);
         let below = borrow(self.hi, other.hi) + borrow(high, low_borrow);
         if below == 0 {
-            return Difference::Rest(Number { lo, hi });
+            Some(Number { lo, hi })
+        } else {
+            None
         }
-        Difference::Below
-    }
-
-    pub fn lt(self, other: Number) -> bool
-        ensures less { result ≡ nat_lt (value_of self) (value_of other) }
-    {
-        if self.hi == other.hi {
-            return self.lo < other.lo;
-        }
-        self.hi < other.hi
-    }
-
-    pub fn le(self, other: Number) -> bool
-        ensures at_most { result ≡ nat_le (value_of self) (value_of other) }
-    {
-        !other.lt(self)
-    }
-
-    pub fn eq(self, other: Number) -> bool
-        ensures equal { result ≡ (value_of self == value_of other) }
-    {
-        if self.lo == other.lo {
-            return self.hi == other.hi;
-        }
-        false
     }
 
     pub fn is_zero(self) -> bool
         ensures zero { result ≡ (value_of self == 0) }
     {
-        if self.lo == 0 {
-            return self.hi == 0;
-        }
-        false
+        self.lo == 0 && self.hi == 0
     }
 
-    pub fn max(self, other: Number) -> Number
-        ensures greater { result ≡ number_of (max (value_of self) (value_of other)) }
+    // The high halves decide, and the low ones where those are equal.
+    fn order(self, other: Number) -> Ordering
+        ensures order { result ≡ nat_cmp (value_of self) (value_of other) }
     {
-        if self.lt(other) {
-            return other;
+        if self.hi == other.hi {
+            return self.lo.cmp(&other.lo);
         }
-        self
+        self.hi.cmp(&other.hi)
+    }
+}
+
+impl PartialEq for Number {
+    ghost use Rattle.number.specs.Number.{value_of};
+
+    ghost eq = { on value_of nat_eq };
+
+    ghost laws = { Prim.search (comparing, rules) };
+
+    fn eq(&self, other: &Number) -> bool {
+        self.lo == other.lo && self.hi == other.hi
+    }
+}
+
+impl Eq for Number {
+    ghost laws = { Prim.search (comparing, rules) };
+}
+
+impl Ord for Number {
+    ghost use Rattle.number.specs.Number.{value_of};
+
+    ghost cmp = { on value_of nat_cmp };
+
+    ghost total = { Prim.search (comparing, rules) };
+
+    ghost matches_partial_cmp = { Prim.search (comparing, rules) };
+
+    ghost matches_eq = { Prim.search (comparing, rules) };
+
+    fn cmp(&self, other: &Number) -> Ordering {
+        self.order(*other)
+    }
+}
+
+impl PartialOrd for Number {
+    ghost use Rattle.number.specs.Number.{value_of};
+
+    ghost partial_cmp = { as_partial_cmp (on value_of nat_cmp) };
+
+    ghost laws = { partial_order_from_own_ties (Prim.search (comparing, rules)) (Prim.search (comparing, rules)) };
+
+    fn partial_cmp(&self, other: &Number) -> Option<Ordering> {
+        Some(self.cmp(other))
     }
 }

@@ -1,4 +1,6 @@
 // Numbers in 32-bit words, four to a number, low word first.
+#![tactic(auto, unfolding(crate::specs::Words::digits, crate::specs::Words::value_of_words))]
+
 ghost use Rattle.std.specs.Prelude.{◌≡◌, ◌+◌, ◌≤◌, length, take, drop};
 ghost use Rattle.std.proofs.lemmas.List.Edits.{sets};
 ghost use Rattle.number.specs.Number.{value_of, number_of};
@@ -6,20 +8,12 @@ ghost use Rattle.number.specs.Words.{digits, value_of_words};
 
 use super::Number;
 
-fn wide(x: u32) -> u64
-    ensures same { result ≡ x }
-{
-    x as u64
-}
-
 // The half that the two words at `at` hold.
 fn read_half(s: &[u32], at: usize) -> u64
     requires fits { at + 2 ≤ length s.now }
     ensures value { result ≡ value_of_words (take 2 (drop at s.now)) }
 {
-    let low = wide(s[at]);
-    let high = wide(s[at + 1]);
-    low + 4294967296 * high
+    u64::from(s[at]) + 4294967296 * u64::from(s[at + 1])
 }
 
 // The number that the four words at `at` hold.

@@ -5,4 +5,4 @@ use Rattle.delta.proofs.words.is_delta.Goals as goal
 
 pub returns : goal.returns
 returns c =
-    record { checked = checked_op c.args.s.now c.args.at _ _ c.read-delta.ensures.value c.is_valid.ensures.valid }
+    record { checked = checked_op c.args.s.now c.args.at _ _ c.read.ensures.value c.is_valid.ensures.valid }

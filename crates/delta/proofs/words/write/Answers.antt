@@ -10,4 +10,4 @@ shape_of-s c = simp length-set (omega arith)
 
 pub returns : goal.returns
 returns c =
-    record { written = delta_put _ _ _ _ _ _ _ _ c.write.ensures.written c.write-2.ensures.written c.write-3.ensures.written c.write-4.ensures.written c.sign_of-sign.ensures.sign }
+    record { written = delta_put _ _ _ _ _ _ _ _ c.write.ensures.written c.write-2.ensures.written c.write-3.ensures.written c.write-4.ensures.written c.sign_word.ensures.sign }

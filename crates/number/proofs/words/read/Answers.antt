@@ -1,6 +1,5 @@
 -- `number::words::read` meets its contract.
 -- Assumes nothing.
-use Rattle.std.proofs.Common.{rules}
 use Rattle.number.proofs.Digits.{number_is}
 use Rattle.number.proofs.words.read.Goals as goal
 
