@@ -15,9 +15,9 @@ use Rattle.lists.specs.Lists.{every}
 use Rattle.number.specs.Words.{AreWords}
 use Rattle.number.proofs.Digits.{words_take, words_drop}
 use Rattle.delta.specs.Delta.{delta_ok}
-use Rattle.delta.specs.Op.{op_at, valid_op}
+use Rattle.delta.specs.Record.{op_at, valid_op}
 use Rattle.delta.specs.declared.DeltaOp.{DeltaOp}
-use Rattle.delta.proofs.DeltaOps.{valid_op_op_at}
+use Rattle.delta.proofs.RecordLaws.{valid_op_op_at}
 use Rattle.types.specs.Value.{value_at, value_ok, is_exchanged}
 use Rattle.types.specs.ValueWithLayout.{value_from, words_of}
 use Rattle.types.specs.declared.value.ValueWithLayout.{ValueWithLayout}

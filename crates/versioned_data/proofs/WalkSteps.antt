@@ -2,7 +2,7 @@
 -- Assumes nothing.
 use mathlib.Core.Path.{◌≡◌, refl, sym, ◌∙◌, ap}
 use mathlib.Core.Bool.{Bool, true, false}
-use Rattle.std.specs.Prelude.{Option, Some, None}
+use Rattle.std.specs.Prelude.{Option, Some, None, Result, Ok}
 use Rattle.directory.specs.declared.cells.Place.{Place}
 use mathlib.Core.List.{List, [], ◌∷◌, ◌++◌}
 use Prim.Native.Nat.{ℕ, zero, suc, ◌+◌, ◌-◌, ◌/◌, ◌%◌, ◌≤◌, ◌<◌}
@@ -19,19 +19,21 @@ use Rattle.number.specs.Number.{value_of, number_of}
 use Rattle.number.specs.Words.{value_of_words}
 use Rattle.number.specs.declared.Number.{Number}
 use Rattle.number.proofs.Halves.{value_of_number_of}
-use Rattle.delta.specs.Delta.{Delta, Accumulated, nothing, accumulate, valid_so_far, delta_at, delta_ok}
-use Rattle.delta.specs.Op.{exact, exactly, accumulator_of, op_at, valid_op}
+use Rattle.delta.specs.Delta.{Accumulated, nothing, accumulate, valid, delta_at}
+use Rattle.delta.specs.Op.{exactly, accumulator_of}
+use Rattle.delta.specs.Record.{exact, op_at}
 use Rattle.delta.specs.declared.DeltaOp.{DeltaOp}
 use Rattle.delta.specs.declared.Accumulator.{Accumulator}
 use Rattle.delta.specs.declared.Accumulator.TheVariants.{Empty}
-use Rattle.delta.proofs.DeltaOps.{exact_op_at, valid_op_op_at, exactly_accumulator_of}
-use Rattle.delta.proofs.DeltaMerges.{accumulate_valid}
+use Rattle.delta.proofs.RecordLaws.{exact_op_at}
+use Rattle.delta.proofs.DeltaRuns.{exactly_accumulator_of}
 use Rattle.types.specs.Index.{shifted_of, word_of}
 use Rattle.types.specs.Value.{value_at}
 use Rattle.types.specs.ValueWithLayout.{value_from}
 use Rattle.types.specs.declared.index.ShiftedTxnIndex.{ShiftedTxnIndex}
 use Rattle.types.specs.declared.value.ValueWithLayout.{ValueWithLayout}
 use Rattle.types.specs.declared.output.MVDataOutput.{MVDataOutput}
+use Rattle.types.specs.declared.refusal.Refusal.{Refusal}
 use Rattle.types.specs.declared.output.MVDataOutput.TheVariants.{Versioned, Uninitialized}
 use Rattle.store.specs.Held.{position_or_end, content_of, no_row}
 use Rattle.store.specs.Valid.{There}
@@ -45,7 +47,7 @@ use Rattle.versioned_data.specs.Rows.{rows_of, row_of_place, DataStore, position
 use Rattle.versioned_data.specs.Output.{output_of}
 use Rattle.versioned_data.specs.Step.{has_key, goes_on, deltas_in}
 use Rattle.versioned_data.proofs.RowsDown.{down_end, down_other, down_here}
-use Rattle.versioned_data.proofs.RowParts.{row_delta_valid, row_delta_ok, step_estimate, step_write, step_delta, step_shortcut}
+use Rattle.versioned_data.proofs.RowParts.{row_delta_valid, step_estimate, step_write, step_delta, step_shortcut}
 use Rattle.versioned_data.proofs.ContentWords.{part_of, word_of_lem, value_of_lem, content_inside, payload_is}
 
 -- ---- the row at a position
@@ -199,35 +201,30 @@ module _ (n : ℕ) (s : List ℕ) (store : DataStore n s) (page cell : ℕ) (the
       unfolding delta_in
       op_exact = ap exact told ∙ exact_op_at (take 16 (drop b s) ++ (sign ∷ [])) ∙ ap delta_at words_are
 
-      pub op_valid : valid_op op ≡ true
-      op_valid =
-          ap valid_op told ∙ valid_op_op_at (take 16 (drop b s) ++ (sign ∷ [])) ∙ ap delta_ok words_are
-          ∙ row_delta_ok at_row at_fine (λ f. omega (arith, own))
-
-      pub op_gathered : (acc next : Accumulator) → next ≡ accumulator_of (accumulate (exactly acc) (exact op)) → next ≡ accumulator_of (accumulate (exactly acc) (delta_in at_row))
-      op_gathered acc next e = e ∙ ap (λ (d : Delta). accumulator_of (accumulate (exactly acc) d)) op_exact
+      pub op_valid : valid (exact op) ≡ true
+      op_valid = ap valid op_exact ∙ row_delta_valid at_row at_fine (λ f. omega (arith, own))
 
   module _ (acc : Accumulator) (m : ℕ) (own : m ≡ at_row.marks) where
-    at_stop : (r : Read) → walk (exactly acc) (entry_of at_row ∷ []) ≡ r → (o : MVDataOutput) → o ≡ output_of r → o ≡ output_of (walk (exactly acc) (entry_of at_row ∷ []))
+    at_stop : (r : Read) → walk (exactly acc) (entry_of at_row ∷ []) ≡ r → (o : Result MVDataOutput Refusal) → o ≡ output_of r → o ≡ output_of (walk (exactly acc) (entry_of at_row ∷ []))
     at_stop r e o f = f ∙ ap output_of (sym e)
 
     module _ (place : ℕ) (p : place ≡ at_row.spot % 4294967296) (shifted : ShiftedTxnIndex) (t : shifted ≡ shifted_of place) where
       place_is : at_row.spot % 4294967296 ≡ word_of shifted
       place_is = sym p ∙ ap word_of (sym t)
 
-      pub stopped_estimate : m / 4 % 2 ≡ 1 → (o : MVDataOutput) → o ≡ output_of (dependency (word_of shifted - 1)) → o ≡ output_of (walk (exactly acc) (entry_of at_row ∷ []))
+      pub stopped_estimate : m / 4 % 2 ≡ 1 → (o : Result MVDataOutput Refusal) → o ≡ output_of (dependency (word_of shifted - 1)) → o ≡ output_of (walk (exactly acc) (entry_of at_row ∷ []))
       stopped_estimate f o e =
           at_stop (dependency (word_of shifted - 1))
           (step_estimate (exactly acc) at_row [] (ap (λ (k : ℕ). k / 4 % 2) (sym own) ∙ f) ∙ ap (λ (k : ℕ). dependency (k - 1)) place_is) o e
 
-      pub stopped_write : m ≡ 0 → (b : ℕ) → b ≡ content_of payload_width n s (position_in n s page cell) → (o : MVDataOutput) →
+      pub stopped_write : m ≡ 0 → (b : ℕ) → b ≡ content_of payload_width n s (position_in n s page cell) → (o : Result MVDataOutput Refusal) →
           o ≡ output_of (at_write (exactly acc) (word_of shifted) (get_or s b 0) (value_at (b + 1) s)) → o ≡ output_of (walk (exactly acc) (entry_of at_row ∷ []))
       stopped_write f b c o e =
           at_stop (at_write (exactly acc) (word_of shifted) (get_or s b 0) (value_at (b + 1) s))
           (step_write (exactly acc) at_row [] (sym own ∙ f) ∙ rw (place_is, incarnation_is b c, value_is b c)) o e
 
     pub stopped_shortcut : (m / 4 % 2 ≡ 1 → ⊥) → (m ≡ 0 → ⊥) → (m % 8 ≡ 1 → ⊥) → (b : ℕ) → b ≡ content_of payload_width n s (position_in n s page cell) → (v : Number) →
-        v ≡ number_of (value_of_words (take 4 (drop (b + 16) s))) → (o : MVDataOutput) → o ≡ output_of (onto (exactly acc) (value_of v)) → o ≡ output_of (walk (exactly acc) (entry_of at_row ∷ []))
+        v ≡ number_of (value_of_words (take 4 (drop (b + 16) s))) → (o : Result MVDataOutput Refusal) → o ≡ output_of (onto (exactly acc) (value_of v)) → o ≡ output_of (walk (exactly acc) (entry_of at_row ∷ []))
     stopped_shortcut f g h b c v r o e =
         at_stop (onto (exactly acc) (value_of v))
         (step_shortcut (exactly acc) at_row [] at_fine (λ x. f (ap (λ (k : ℕ). k / 4 % 2) own ∙ x)) (λ x. h (ap (λ (k : ℕ). k % 8) own ∙ x)) (λ x. g (own ∙ x))
@@ -276,7 +273,7 @@ module _ (n : ℕ) (s : List ℕ) (store : DataStore n s) (key c : ℕ) (p : Pla
   own_few = omega (arith, m.place, own_inside, held_units payload_width n false s store.valid, store.valid.units, store.valid.few)
 
   -- the read stops there
-  pub own_stops : (acc : Accumulator) → ((row_of_place n s p).marks % 8 ≡ 1 → ⊥) → (o : MVDataOutput) → o ≡ output_of (walk (exactly acc) (entry_of (row_of_place n s p) ∷ [])) →
+  pub own_stops : (acc : Accumulator) → ((row_of_place n s p).marks % 8 ≡ 1 → ⊥) → (o : Result MVDataOutput Refusal) → o ≡ output_of (walk (exactly acc) (entry_of (row_of_place n s p) ∷ [])) →
       o ≡ output_of (walk (exactly acc) (down_rows key c (rows_of n s)))
   own_stops acc f o g =
       g ∙ ap output_of (sym (stops key (position_in n s p.page p.cell) (rows_of n s) store.fine here (exactly acc) f))
@@ -292,7 +289,7 @@ module _ (n : ℕ) (s : List ℕ) (store : DataStore n s) (key c : ℕ) (p : Pla
       ∙ rw (z, incarnation_is n s store p.page p.cell m.there b d, value_is n s store p.page p.cell m.there b d)
 
   pub own_write : (w : ℕ) → w ≡ (row_of_place n s p).marks → w ≡ 0 → (place : ℕ) → place ≡ (row_of_place n s p).spot % 4294967296 → (shifted : ShiftedTxnIndex) →
-      shifted ≡ shifted_of place → (b : ℕ) → b ≡ content_of payload_width n s (position_in n s p.page p.cell) → (o : MVDataOutput) →
+      shifted ≡ shifted_of place → (b : ℕ) → b ≡ content_of payload_width n s (position_in n s p.page p.cell) → (o : Result MVDataOutput Refusal) →
       o ≡ output_of (versioned (word_of shifted) (get_or s b 0) (value_at (b + 1) s)) → o ≡ output_of (read_of (down_rows key c (rows_of n s)))
   own_write w e f place q shifted t b d o g =
       let z : place ≡ word_of shifted = ap word_of (sym t) in
@@ -316,15 +313,6 @@ module _ (n : ℕ) (s : List ℕ) (store : DataStore n s) (key c : ℕ) (p : Pla
       next_is : exactly next ≡ accumulate (exactly acc) (delta_in (row_of_place n s p))
       next_is = ap exactly g ∙ exactly_accumulator_of (accumulate (exactly acc) (delta_in (row_of_place n s p)))
 
-      pub deeper_canonical : next ≡ accumulator_of (exactly next)
-      deeper_canonical = g ∙ ap accumulator_of (sym next_is)
-
-      pub deeper_valid : valid_so_far (exactly acc) ≡ true → valid_so_far (exactly next) ≡ true
-      deeper_valid v =
-          ap valid_so_far next_is
-          ∙ accumulate_valid (exactly acc) (delta_in (row_of_place n s p)) v
-          (row_delta_valid (row_of_place n s p) (at_fine n s store p.page p.cell m.there) (λ z. omega arith))
-
       pub deeper_walk : walk (exactly acc) (down_rows key c (rows_of n s)) ≡ walk (exactly next) (down_rows key position (rows_of n s))
       deeper_walk =
           ap (λ (k : ℕ). walk (exactly acc) (down_rows key k (rows_of n s))) (sym m.place)
@@ -337,14 +325,12 @@ module _ (n : ℕ) (s : List ℕ) (store : DataStore n s) (key c : ℕ) (p : Pla
 pub record Walking (n : ℕ) (s : List ℕ) (key start rest : ℕ) (at : Option Place) (acc : Accumulator) : Type 0 where
   pub met : Met n s at
   pub deltas : rest ≡ deltas_in (down_rows key (position_from n s at) (rows_of n s))
-  pub canonical : acc ≡ accumulator_of (exactly acc)
-  pub valid : valid_so_far (exactly acc) ≡ true
   pub same : read_of (down_rows key start (rows_of n s)) ≡ walk (exactly acc) (down_rows key (position_from n s at) (rows_of n s))
 
 pub starts : (n : ℕ) (s : List ℕ) (key rest : ℕ) (at : Option Place) → Met n s at → rest ≡ 0 + deltas_in (down_rows key (position_from n s at) (rows_of n s)) →
     Walking n s key (position_from n s at) (rest - 0) at Empty
-unfolding exactly accumulator_of valid_so_far read_of
-starts n s key rest at met e = record { met = met; deltas = omega (arith, e); canonical = refl; valid = refl; same = refl }
+unfolding exactly read_of
+starts n s key rest at met e = record { met = met; deltas = omega (arith, e); same = refl }
 
 module _ (n : ℕ) (s : List ℕ) (store : DataStore n s) (key start rest : ℕ) (at : Option Place) (acc : Accumulator) (w : Walking n s key start rest at acc) where
   -- where deltas are left there is a row of the key, which is one
@@ -377,13 +363,11 @@ module _ (n : ℕ) (s : List ℕ) (store : DataStore n s) (key start rest : ℕ)
           record {
             met = m;
             deltas = omega (arith, w.deltas, own_more n s store key (position_from n s at) p on_own on_marks (position_from n s to) q);
-            canonical = deeper_canonical n s store key (position_from n s at) p on_own on_marks (position_from n s to) q acc next g;
-            valid = deeper_valid n s store key (position_from n s at) p on_own on_marks (position_from n s to) q acc next g w.valid;
             same = w.same ∙ deeper_walk n s store key (position_from n s at) p on_own on_marks (position_from n s to) q acc next g;
           }
 
   module _ (end : 0 < rest → ⊥) where
-    pub end_none : has_key key (position_from n s at) (rows_of n s) ≡ false → (o : MVDataOutput) → o ≡ output_of (at_end (exactly acc)) → o ≡ output_of (read_of (down_rows key start (rows_of n s)))
+    pub end_none : has_key key (position_from n s at) (rows_of n s) ≡ false → (o : Result MVDataOutput Refusal) → o ≡ output_of (at_end (exactly acc)) → o ≡ output_of (read_of (down_rows key start (rows_of n s)))
     unfolding walk
     end_none h o g =
         g ∙ ap (λ (l : List (Row Entry)). output_of (walk (exactly acc) l)) (sym (key_end key (position_from n s at) (rows_of n s) h)) ∙ ap output_of (sym w.same)
@@ -392,14 +376,14 @@ module _ (n : ℕ) (s : List ℕ) (store : DataStore n s) (key start rest : ℕ)
       pub end_marks : (row_of_place n s p).marks % 8 ≡ 1 → ⊥
       end_marks f = end (omega (arith, w.deltas, own_more n s store key (position_from n s at) p m f (suc (position_in n s p.page p.cell)) refl))
 
-      pub end_found : (o : MVDataOutput) → o ≡ output_of (walk (exactly acc) (entry_of (row_of_place n s p) ∷ [])) → o ≡ output_of (read_of (down_rows key start (rows_of n s)))
+      pub end_found : (o : Result MVDataOutput Refusal) → o ≡ output_of (walk (exactly acc) (entry_of (row_of_place n s p) ∷ [])) → o ≡ output_of (read_of (down_rows key start (rows_of n s)))
       end_found o g = own_stops n s store key (position_from n s at) p m acc end_marks o g ∙ ap output_of (sym w.same)
 
 -- a read that meets no row of the key
-pub read_nothing : (key c : ℕ) (rows : List StoreRow) → has_key key c rows ≡ false → Uninitialized ≡ output_of (read_of (down_rows key c rows))
+pub read_nothing : (key c : ℕ) (rows : List StoreRow) → has_key key c rows ≡ false → Ok Uninitialized ≡ output_of (read_of (down_rows key c rows))
 unfolding read_of walk at_end output_of
 read_nothing key c rows h = ap (λ (l : List (Row Entry)). output_of (read_of l)) (sym (key_end key c rows h))
 
-pub versioned_is : (shifted : ShiftedTxnIndex) (i : ℕ) (v : ValueWithLayout) (ws : List ℕ) → v ≡ value_from ws → Versioned shifted i v ≡ output_of (versioned (word_of shifted) i ws)
+pub versioned_is : (shifted : ShiftedTxnIndex) (i : ℕ) (v : ValueWithLayout) (ws : List ℕ) → v ≡ value_from ws → Ok (Versioned shifted i v) ≡ output_of (versioned (word_of shifted) i ws)
 unfolding output_of
-versioned_is shifted i v ws e = ap (Versioned shifted i) e
+versioned_is shifted i v ws e = ap (λ (x : ValueWithLayout). Ok (Versioned shifted i x)) e

@@ -14,17 +14,18 @@ use crate::walk::Entries;
 use store::read::Rows;
 use types::index::{ShiftedTxnIndex, TxnIndex};
 use types::output::MVDataOutput;
+use types::refusal::Refusal;
 use types::units::units;
 
 // The walk down from the greatest shifted index below a bound, `range(zero_idx()..bound)`. A store of no units is not searched.
-pub fn read_at(s: &[u32], key: u32, bound: ShiftedTxnIndex) -> MVDataOutput
+pub fn read_at(s: &[u32], key: u32, bound: ShiftedTxnIndex) -> Result<MVDataOutput, Refusal>
     requires store { data_valid s.now ≡ true }
     requires above_base { 0 < word_of bound }
     ensures read { result ≡ output_of (read_of (down_from key (word_of bound - 1) (entries_in s.now))) }
 {
     let n = units(s);
     if n == 0 {
-        return MVDataOutput::Uninitialized;
+        return Ok(MVDataOutput::Uninitialized);
     }
     let y = spot(key, bound.word() - 1);
     let rows: DataRows = Rows { words: s, units: n };
@@ -33,7 +34,7 @@ pub fn read_at(s: &[u32], key: u32, bound: ShiftedTxnIndex) -> MVDataOutput
     entries.read_from(key, rows.cell_after(p))
 }
 
-pub fn fetch_data(s: &[u32], key: u32, txn_idx: TxnIndex) -> MVDataOutput
+pub fn fetch_data(s: &[u32], key: u32, txn_idx: TxnIndex) -> Result<MVDataOutput, Refusal>
     requires store { data_valid s.now ≡ true }
     requires served { txn_idx < index_bound }
     ensures read { result ≡ output_of (read_of (down_from key txn_idx (entries_in s.now))) }

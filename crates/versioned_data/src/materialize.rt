@@ -70,14 +70,13 @@ pub fn materialize_delta(s: &mut [u32], key: u32, txn_idx: TxnIndex) -> Material
     requires served { txn_idx < materialize_bound }
     ensures materialized { Materializes s.old key (suc txn_idx) (λ own. rule.materialize_delta own (down_from key (suc txn_idx) (entries_in s.old))) (rule.read_of (down_from key (suc txn_idx) (entries_in s.old))) result s.new }
 {
-    match read_at(s, key, ShiftedTxnIndex::new(txn_idx + 1)) {
+    let found = match read_at(s, key, ShiftedTxnIndex::new(txn_idx + 1)) {
+        Ok(found) => found,
+        Err(refusal) => return Materialized::Refused(refusal.number()),
+    };
+    match found {
         MVDataOutput::Resolved(n) => resolve_at(s, key, ShiftedTxnIndex::new(txn_idx), n),
         MVDataOutput::Unresolved(op) => Materialized::Unresolved(op),
-        MVDataOutput::LayoutUnderDelta => Materialized::Refused(refusal::LAYOUT_UNDER_DELTA),
-        MVDataOutput::NoNumberUnderDelta => Materialized::Refused(refusal::NO_NUMBER_UNDER_DELTA),
-        MVDataOutput::Versioned(_, _, _) => Materialized::Refused(refusal::NOT_MATERIALIZABLE),
-        MVDataOutput::Uninitialized => Materialized::Refused(refusal::NOT_MATERIALIZABLE),
-        MVDataOutput::Dependency(_) => Materialized::Refused(refusal::NOT_MATERIALIZABLE),
-        MVDataOutput::DeltaApplicationFailure => Materialized::Refused(refusal::NOT_MATERIALIZABLE),
+        _ => Materialized::Refused(refusal::NOT_MATERIALIZABLE),
     }
 }

@@ -1,8 +1,8 @@
 // The walk of `VersionedValue::read` down the rows of a key.
-ghost use Rattle.std.specs.Prelude.{◌≡◌, true, false, [], ◌∷◌, ◌++◌, IfSome, IfNone, ◌+◌, ◌-◌, ◌%◌, ◌≤◌, length, get_or, take, drop};
+ghost use Rattle.std.specs.Prelude.{◌≡◌, true, false, [], ◌∷◌, ◌++◌, IfSome, IfNone, Ok, ◌+◌, ◌-◌, ◌%◌, ◌≤◌, length, get_or, take, drop};
 ghost use Rattle.lists.specs.Lists.{every};
 ghost use Rattle.number.specs.Number.{value_of};
-ghost use Rattle.delta.specs.Delta.{accumulate, valid_so_far};
+ghost use Rattle.delta.specs.Delta.{accumulate};
 ghost use Rattle.delta.specs.Op.{exactly, accumulator_of, op_at};
 ghost use Rattle.types.specs.Index.{word_of};
 ghost use Rattle.types.specs.Value.{value_at};
@@ -15,35 +15,34 @@ ghost use Rattle.versioned_data.specs.Step.{has_key, deltas_in};
 ghost use Rattle.versioned_data.specs.Output.{output_of};
 
 use crate::layout::DataRows;
-use delta::{Accumulator, Applied, DeltaOp};
+use delta::{Accumulator, DeltaOp, ValidDelta};
 use directory::cells::Place;
 use number::Number;
-use types::index::{IndexOrStorage, ShiftedTxnIndex};
+use types::index::ShiftedTxnIndex;
 use types::output::MVDataOutput;
-use types::value::{AsU128, ValueWithLayout};
+use types::refusal::Refusal;
+use types::value::ValueWithLayout;
 
 // What the walk finds where no entry is left.
 fn at_end(acc: Accumulator) -> MVDataOutput
-    requires canonical { acc ≡ accumulator_of (exactly acc) }
-    ensures end { result ≡ output_of (at_end (exactly acc)) }
+    ensures end { Ok result ≡ output_of (at_end (exactly acc)) }
 {
     match acc {
         Accumulator::Empty => MVDataOutput::Uninitialized,
-        Accumulator::Gathered(op) => MVDataOutput::Unresolved(op),
+        Accumulator::Gathered(delta) => MVDataOutput::Unresolved(DeltaOp::from(delta)),
         Accumulator::Failed => MVDataOutput::DeltaApplicationFailure,
     }
 }
 
 // A number below the deltas of the walk.
 fn onto(acc: Accumulator, n: Number) -> MVDataOutput
-    requires valid { valid_so_far (exactly acc) ≡ true }
-    ensures resolved { result ≡ output_of (onto (exactly acc) (value_of n)) }
+    ensures resolved { Ok result ≡ output_of (onto (exactly acc) (value_of n)) }
 {
     match acc {
         Accumulator::Empty => MVDataOutput::Resolved(n),
-        Accumulator::Gathered(op) => match op.apply_to(n) {
-            Applied::Value(v) => MVDataOutput::Resolved(v),
-            Applied::Outside => MVDataOutput::DeltaApplicationFailure,
+        Accumulator::Gathered(delta) => match delta.apply_to(n) {
+            Some(v) => MVDataOutput::Resolved(v),
+            None => MVDataOutput::DeltaApplicationFailure,
         },
         Accumulator::Failed => MVDataOutput::DeltaApplicationFailure,
     }
@@ -55,34 +54,30 @@ fn below_deltas(
     at: ShiftedTxnIndex,
     incarnation: u32,
     v: ValueWithLayout,
-) -> MVDataOutput
-    requires valid { valid_so_far (exactly acc) ≡ true }
+) -> Result<MVDataOutput, Refusal>
     ensures below { result ≡ output_of (below_deltas (exactly acc) (word_of at) incarnation (words_of v)) }
 {
     if v.has_layout() {
-        return MVDataOutput::LayoutUnderDelta;
+        return Err(Refusal::LayoutUnderDelta);
     }
     match v.as_u128() {
-        AsU128::Deleted => MVDataOutput::Versioned(at, incarnation, v),
-        AsU128::Value(n) => onto(acc, n),
-        AsU128::NotANumber => MVDataOutput::NoNumberUnderDelta,
+        Ok(None) => Ok(MVDataOutput::Versioned(at, incarnation, v)),
+        Ok(Some(n)) => Ok(onto(acc, n)),
+        Err(_) => Err(Refusal::NoNumberUnderDelta),
     }
 }
 
 // An estimate in the way: the walk waits for its transaction.
 fn dependency(at: ShiftedTxnIndex) -> MVDataOutput
-    ensures waits { result ≡ output_of (dependency (word_of at - 1)) }
+    ensures waits { Ok result ≡ output_of (dependency (word_of at - 1)) }
 {
-    match at.idx() {
-        IndexOrStorage::Index(index) => MVDataOutput::Dependency(index),
-        IndexOrStorage::StorageVersion => MVDataOutput::Dependency(0),
-    }
+    MVDataOutput::Dependency(at.idx().unwrap_or(0))
 }
 
 // The write whose content is at b, with no delta above it.
 fn versioned(s: &[u32], b: usize, at: ShiftedTxnIndex) -> MVDataOutput
     requires inside { b + 20 ≤ length s.now }
-    ensures write { result ≡ output_of (versioned (word_of at) (get_or s.now b 0) (value_at (b + 1) s.now)) }
+    ensures write { Ok result ≡ output_of (versioned (word_of at) (get_or s.now b 0) (value_at (b + 1) s.now)) }
 {
     let incarnation = s[b];
     let value = ValueWithLayout::read(s, b + 1);
@@ -90,9 +85,13 @@ fn versioned(s: &[u32], b: usize, at: ShiftedTxnIndex) -> MVDataOutput
 }
 
 // The write whose content is at b, with the deltas of the walk above it.
-fn at_write(s: &[u32], b: usize, at: ShiftedTxnIndex, acc: Accumulator) -> MVDataOutput
+fn at_write(
+    s: &[u32],
+    b: usize,
+    at: ShiftedTxnIndex,
+    acc: Accumulator,
+) -> Result<MVDataOutput, Refusal>
     requires inside { b + 20 ≤ length s.now }
-    requires valid { valid_so_far (exactly acc) ≡ true }
     ensures write { result
         ≡ output_of
         (at_write (exactly acc) (word_of at) (get_or s.now b 0) (value_at (b + 1) s.now)) }
@@ -100,7 +99,7 @@ fn at_write(s: &[u32], b: usize, at: ShiftedTxnIndex, acc: Accumulator) -> MVDat
     let incarnation = s[b];
     let v = ValueWithLayout::read(s, b + 1);
     match acc {
-        Accumulator::Empty => MVDataOutput::Versioned(at, incarnation, v),
+        Accumulator::Empty => Ok(MVDataOutput::Versioned(at, incarnation, v)),
         Accumulator::Gathered(_) => below_deltas(acc, at, incarnation, v),
         Accumulator::Failed => below_deltas(acc, at, incarnation, v),
     }
@@ -150,36 +149,33 @@ impl<'a> Entries<'a> {
     }
 
     // What the walk finds at a row where it stops.
-    fn stop(self, at: Place, acc: Accumulator) -> MVDataOutput
+    fn stop(self, at: Place, acc: Accumulator) -> Result<MVDataOutput, Refusal>
         requires there { There payload_width self.rows.units self.rows.words.now at.page at.cell }
         requires stops { (row_of_place self.rows.units self.rows.words.now at).marks % 8 ≡ 1 → ⊥ }
-        requires canonical { acc ≡ accumulator_of (exactly acc) }
-        requires valid { valid_so_far (exactly acc) ≡ true }
         ensures found { result ≡ output_of (walk (exactly acc) (entry_of (row_of_place self.entry.rows.units self.entry.rows.words.now at) ∷ [])) }
     {
         let marks = self.rows.marks_at(at);
         let b = self.rows.content_at(at);
         let place = ShiftedTxnIndex::from_word(self.rows.place_at(at));
         if marks / 4 % 2 == 1 {
-            return dependency(place);
+            return Ok(dependency(place));
         }
         if marks == 0 {
             return at_write(self.rows.words, b, place, acc);
         }
-        onto(acc, number::words::read(self.rows.words, b + 16))
+        Ok(onto(acc, number::words::read(self.rows.words, b + 16)))
     }
 
     // What the walk has gathered past a done delta without a shortcut.
     fn past(self, at: Place, acc: Accumulator) -> Accumulator
         requires there { There payload_width self.rows.units self.rows.words.now at.page at.cell }
         requires delta { (row_of_place self.rows.units self.rows.words.now at).marks % 8 ≡ 1 }
-        requires valid { valid_so_far (exactly acc) ≡ true }
         ensures gathered { result ≡ accumulator_of (accumulate (exactly acc) (delta_in (row_of_place self.entry.rows.units self.entry.rows.words.now at))) }
     {
         let marks = self.rows.marks_at(at);
         let b = self.rows.content_at(at);
         let earlier = read_op(self.rows.words, b, marks / 8);
-        acc.accumulate(earlier)
+        acc.accumulate(ValidDelta::new(earlier))
     }
 
     // How many done deltas without a shortcut a walk meets from a place down, while the key is the same, and those met before: the shifted index falls at
@@ -199,7 +195,7 @@ impl<'a> Entries<'a> {
     }
 
     // The walk from a place down: past the deltas, which are merged one after the other, to where it stops.
-    pub fn walk(self, key: u32, start: Option<Place>) -> MVDataOutput
+    pub fn walk(self, key: u32, start: Option<Place>) -> Result<MVDataOutput, Refusal>
         requires met { Met self.rows.units self.rows.words.now start }
         ensures found { result ≡ output_of (read_of (down_place self.entry.rows.units self.entry.rows.words.now key start)) }
     {
@@ -214,24 +210,24 @@ impl<'a> Entries<'a> {
             at = self.rows.next(p);
         }
         match self.of_key(key, at) {
-            None => at_end(acc),
+            None => Ok(at_end(acc)),
             Some(p) => self.stop(p, acc),
         }
     }
 
     // The walk with nothing gathered. Nearly every read ends at a write right there, which is answered without the walk's accumulator.
-    pub fn read_from(self, key: u32, at: Option<Place>) -> MVDataOutput
+    pub fn read_from(self, key: u32, at: Option<Place>) -> Result<MVDataOutput, Refusal>
         requires met { Met self.rows.units self.rows.words.now at }
         ensures found { result ≡ output_of (read_of (down_place self.entry.rows.units self.entry.rows.words.now key at)) }
     {
         let Some(row) = self.of_key(key, at) else {
-            return MVDataOutput::Uninitialized;
+            return Ok(MVDataOutput::Uninitialized);
         };
         if self.rows.marks_at(row) != 0 {
             return self.walk(key, at);
         }
         let b = self.rows.content_at(row);
         let place = ShiftedTxnIndex::from_word(self.rows.place_at(row));
-        versioned(self.rows.words, b, place)
+        Ok(versioned(self.rows.words, b, place))
     }
 }

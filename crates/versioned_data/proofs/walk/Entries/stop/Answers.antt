@@ -12,7 +12,7 @@ returns-then-marks-eq1 c =
 
 pub at_write-requires : goal.at_write-requires
 at_write-requires c =
-    record { inside = content_fits _ _ (record { valid = c.args.self.rows.valid; fine = c.args.self.fine }) _ _ c.requires.there _ c.content_at-b.ensures.content; valid = c.requires.valid }
+    record { inside = content_fits _ _ (record { valid = c.args.self.rows.valid; fine = c.args.self.fine }) _ _ c.requires.there _ c.content_at-b.ensures.content }
 
 pub returns-then-marks-eq0 : goal.returns-then-marks-eq0
 returns-then-marks-eq0 c =

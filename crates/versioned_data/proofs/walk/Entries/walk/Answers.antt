@@ -15,7 +15,6 @@ past-acc-requires c =
     record {
       there = (on_own _ _ (record { valid = c.args.self.rows.valid; fine = c.args.self.fine }) _ _ _ _ _ c.loop-i.invariant (omega arith) _ c.in-Some.is).there;
       delta = on_marks _ _ (record { valid = c.args.self.rows.valid; fine = c.args.self.fine }) _ _ _ _ _ c.loop-i.invariant (omega arith) _ c.in-Some.is;
-      valid = c.loop-i.invariant.valid;
     }
 
 pub next-at-requires : goal.next-at-requires
@@ -30,17 +29,11 @@ pub of_key-requires : goal.of_key-requires
 of_key-requires c =
     record { met = c.loop-i.invariant.met }
 
-pub at_end-requires : goal.at_end-requires
-at_end-requires c =
-    record { canonical = c.loop-i.invariant.canonical }
-
 pub stop-requires : goal.stop-requires
 stop-requires c =
     record {
       there = c.in-Some-of_key.ensures.met.there;
       stops = end_marks _ _ (record { valid = c.args.self.rows.valid; fine = c.args.self.fine }) _ _ _ _ _ c.loop-i.invariant (λ h. omega (arith, h)) _ c.in-Some-of_key.ensures.met;
-      canonical = c.loop-i.invariant.canonical;
-      valid = c.loop-i.invariant.valid;
     }
 
 pub returns-in-None : goal.returns-in-None
