@@ -1,53 +1,32 @@
 -- The 17 words of a delta: what is written reads back, and what is a delta in words is written so.
 -- Assumes nothing.
 use mathlib.Core.Path.{◌≡◌, refl, sym, ap, ap₂, ◌∙◌}
-use mathlib.Core.Bool.{Bool, true, false, not, cond, ◌&&◌}
+use mathlib.Core.Bool.{Bool, true, false, not, cond}
 use mathlib.Core.List.{List, [], ◌∷◌, ◌++◌}
-use Prim.Native.Nat.{ℕ, zero, suc, ◌+◌, ◌≤◌, ◌<◌, min}
+use Prim.Native.Nat.{ℕ, zero, suc, ◌≤◌, ◌<◌}
 use native.Mathlib.Omega.{arith}
-use lib.Dec.{leb, eqb, lit<, eqb-suc-zero}
+use lib.Dec.{leb, lit<, eqb-suc-zero}
 use lib.IntN.{ℤ, pos, negsuc, nat_abs}
 use lib.ListN.{length, take, drop, get_or, length-drop}
 use lib.Seq.{take_all, take-add, take-suc, length-take-le}
 use mir.Val.{bool_byte}
-use borrow.Author.Tests.{leb-true, eq-eqb, ne_eqb}
-use Rattle.lists.proofs.Bools.{and_left, and_right}
 use Rattle.number.specs.Words.{digits, value_of_words, AreWords}
 use Rattle.number.specs.Number.{range}
 use Rattle.number.proofs.Digits.{words_digits, digits_value, value_four, four_below, words_append, words_take, words_drop}
 use Rattle.delta.specs.Delta.{delta_width, Delta, valid, is_minus, is_negative, signed, sign_word, number_at, minus_zero, minus_at, delta_at, delta_ok, delta_words}
-use Rattle.delta.proofs.DeltaGains.{size_sides, one_side, gain_signed, loss_signed}
+use Rattle.delta.proofs.DeltaGains.{size_sides, one_side, sides}
 use Rattle.delta.proofs.DeltaMerges.{valid_bounds}
 
 -- ---- signs
 
 pub size_signed : (m : Bool) (n : ℕ) → nat_abs (signed m n) ≡ n
-size_signed m n = size_sides (signed m n) ∙ rw (gain_signed m n, loss_signed m n) (go m)
-  where
-    go : (t : Bool) → cond t 0 n + cond t n 0 ≡ n
-    go true = omega arith
-    go false = omega arith
+size_signed m n = grind (arith, sides, size_sides)
 
 pub minus_signed : (m : Bool) (n : ℕ) → not (minus_zero m n) ≡ true → is_minus (signed m n) ≡ m
 unfolding signed is_minus minus_zero
 minus_signed true zero e = e
 minus_signed true (suc n) e = refl
 minus_signed false n e = refl
-
-pub not_zero : (m : Bool) (n : ℕ) → eqb n 0 ≡ false → not (minus_zero m n) ≡ true
-unfolding minus_zero
-not_zero true n e = rw e
-not_zero false n e = refl
-
-pub plus_fine : (n : ℕ) → not (minus_zero false n) ≡ true
-unfolding minus_zero
-plus_fine n = refl
-
--- minus zero is zero
-pub zero_plus : (m : Bool) → is_minus (signed m 0) ≡ false
-unfolding signed is_minus
-zero_plus true = refl
-zero_plus false = refl
 
 pub signed_back : (z : ℤ) → signed (is_minus z) (nat_abs z) ≡ z
 unfolding signed is_minus
@@ -63,12 +42,6 @@ pub byte_sign : (z : ℤ) → bool_byte (is_minus z) ≡ sign_word z
 unfolding sign_word is_minus
 byte_sign (pos n) = refl
 byte_sign (negsuc n) = refl
-
-pub is_negative_lem : (s : ℕ) → (s ≡ 0 → ⊥) → is_negative s ≡ true
-is_negative_lem s h = rw (ne_eqb s 0 h)
-
-pub is_plus : (s : ℕ) → s ≡ 0 → is_negative s ≡ false
-is_plus s h = rw (eq-eqb s 0 h)
 
 -- a sign of 0 or 1 is the word of its own meaning
 word_of_sign : (s : ℕ) → s ≤ 1 → cond (is_negative s) 1 0 ≡ s
@@ -142,9 +115,6 @@ pub record Small (d : Delta) : Type 0 where
   pub low : d.low < range
   pub update : nat_abs d.update < range
 
-within_size : (s g k h l m r : ℕ) → s ≡ g + k → min g k ≡ 0 → g ≤ h → k ≤ l → h ≤ m → l ≤ m → m < r → s < r
-within_size s g k h l m r a b c d e f q = omega arith
-
 pub valid_small : (d : Delta) → valid d ≡ true → d.limit < range → Small d
 valid_small d v h =
     let w = valid_bounds d v in
@@ -152,7 +122,7 @@ valid_small d v h =
       limit = h;
       high = omega (arith, w.high_fits);
       low = omega (arith, w.low_fits);
-      update = within_size _ _ _ _ _ _ _ (size_sides d.update) (one_side d.update) w.tall w.deep w.high_fits w.low_fits h;
+      update = omega (arith, size_sides d.update, one_side d.update, w.tall, w.deep, w.high_fits, w.low_fits);
     }
 
 pub delta_at_delta_words : (d : Delta) → Small d → delta_at (delta_words d) ≡ d
@@ -185,15 +155,15 @@ number_update d s = ap value_of_words (update_part d) ∙ value_four (nat_abs d.
 module _ (ws : List ℕ) (ok : delta_ok ws ≡ true) where
   pub ok_sign : get_or ws 16 0 ≤ 1
   unfolding delta_ok
-  ok_sign = leb-true _ _ (and_left (leb (get_or ws 16 0) 1) _ (and_left _ _ ok))
+  ok_sign = grind arith
 
   pub ok_zero : not (minus_zero (minus_at ws) (number_at ws 12)) ≡ true
   unfolding delta_ok
-  ok_zero = and_right (leb (get_or ws 16 0) 1) _ (and_left _ (valid (delta_at ws)) ok)
+  ok_zero = grind arith
 
   pub ok_valid : valid (delta_at ws) ≡ true
   unfolding delta_ok
-  ok_valid = and_right (leb (get_or ws 16 0) 1 && not (minus_zero (minus_at ws) (number_at ws 12))) (valid (delta_at ws)) ok
+  ok_valid = grind arith
 
   pub sign_back : sign_word (signed (minus_at ws) (number_at ws 12)) ≡ get_or ws 16 0
   unfolding minus_at
@@ -240,8 +210,4 @@ delta_ok_delta_words d v s =
 
 pub words_delta_words : (d : Delta) → AreWords (delta_words d)
 unfolding delta_words
-words_delta_words d =
-    let two : AreWords (digits 4 d.limit ++ digits 4 d.high) = words_append (digits 4 d.limit) (digits 4 d.high) (words_digits 4 d.limit) (words_digits 4 d.high) in
-    let three : AreWords (digits 4 d.limit ++ digits 4 d.high ++ digits 4 d.low) = words_append (digits 4 d.limit ++ digits 4 d.high) (digits 4 d.low) two (words_digits 4 d.low) in
-    let four : AreWords (digits 4 d.limit ++ digits 4 d.high ++ digits 4 d.low ++ digits 4 (nat_abs d.update)) = words_append (digits 4 d.limit ++ digits 4 d.high ++ digits 4 d.low) (digits 4 (nat_abs d.update)) three (words_digits 4 (nat_abs d.update)) in
-    words_append (digits 4 d.limit ++ digits 4 d.high ++ digits 4 d.low ++ digits 4 (nat_abs d.update)) (sign_word d.update ∷ []) four (sign_words d.update)
+words_delta_words d = search (words_append, words_digits, sign_words)

@@ -3,14 +3,12 @@
 -- Assumes nothing.
 use mathlib.Core.Path.{◌≡◌, refl, sym, ap, ◌∙◌}
 use mathlib.Core.Bool.{Bool, true, false, cond}
-use Prim.Native.Nat.{ℕ, zero, suc, ◌+◌, ◌-◌, ◌<◌, max, min}
+use Prim.Native.Nat.{ℕ, zero, suc, ◌+◌, ◌-◌, max, min}
 use native.Mathlib.Nat.{zero-min, min-zero, max-zero}
-use native.Mathlib.Decide.{dec_lt}
 use native.Mathlib.Omega.{arith}
 use lib.Dec.{leb, ltb, leb-zero, leb-suc-zero, leb-suc-suc}
 use lib.IntN.{ℤ, pos, negsuc, neg_ℤ, nat_abs, sub_ℕ, ◌+ℤ◌}
 use lib.Signed.{le_z}
-use borrow.Author.Tests.{lt-ltb, le-ltb}
 use Rattle.delta.specs.Delta.{greater, signed, is_minus}
 
 unfoldable pub gain : ℤ → ℕ
@@ -40,19 +38,11 @@ size_sides (negsuc n) = omega arith
 
 gain_difference : (a b : ℕ) → gain (sub_ℕ a b) ≡ a - b
 unfolding gain
-gain_difference a b = go (dec_lt a b)
-  where
-    go : Dec (a < b) → gain (sub_ℕ a b) ≡ a - b
-    go (yes h) = rw (lt-ltb a b h) (omega arith)
-    go (no h) = rw (le-ltb a b (omega arith))
+gain_difference a b = grind arith
 
 loss_difference : (a b : ℕ) → loss (sub_ℕ a b) ≡ b - a
 unfolding loss
-loss_difference a b = go (dec_lt a b)
-  where
-    go : Dec (a < b) → loss (sub_ℕ a b) ≡ b - a
-    go (yes h) = rw (lt-ltb a b h) (omega arith)
-    go (no h) = rw (le-ltb a b (omega arith)) (omega arith)
+loss_difference a b = grind arith
 
 pub gain_sum : (a b : ℤ) → gain (a +ℤ b) ≡ (gain a + gain b) - (loss a + loss b)
 unfolding gain loss
@@ -118,5 +108,8 @@ loss_signed false n = loss_pos n
 
 pub minus_is : (z : ℤ) → is_minus z ≡ ltb 0 (loss z)
 unfolding is_minus loss
-minus_is (pos n) = sym (le-ltb 0 0 (omega arith))
-minus_is (negsuc n) = sym (lt-ltb 0 (suc n) (omega arith))
+minus_is (pos n) = grind arith
+minus_is (negsuc n) = grind arith
+
+-- an integer's sides, and what is said of it by them
+pub ruleset sides = (gain_sum, loss_sum, gain_neg, loss_neg, gain_pos, loss_pos, gain_signed, loss_signed, greater_is, above_is, below_is)

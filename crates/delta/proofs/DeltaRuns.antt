@@ -5,7 +5,7 @@ use Rattle.std.specs.List.{fold}
 use Rattle.std.proofs.lemmas.List.Sums.{fold_more}
 use lib.Seq.{take_all}
 use Rattle.delta.specs.declared.Accumulator.{Accumulator}
-use Rattle.delta.specs.declared.Accumulator.TheVariants.{Empty}
+use Rattle.delta.specs.declared.Accumulator.TheVariants.{Empty, Gathered, Failed}
 use Rattle.delta.specs.declared.DeltaOp.{DeltaOp}
 use Rattle.delta.specs.Delta.{Delta, Accumulated, nothing, merged, failed, accumulate, accumulate_all}
 use Rattle.delta.specs.Record.{exact, valid_op}
@@ -16,6 +16,12 @@ unfolding exactly accumulator_of
 exactly_accumulator_of nothing = refl
 exactly_accumulator_of (merged d) = refl
 exactly_accumulator_of failed = refl
+
+pub accumulator_of_exactly : (a : Accumulator) → accumulator_of (exactly a) ≡ a
+unfolding exactly accumulator_of
+accumulator_of_exactly Empty = refl
+accumulator_of_exactly (Gathered d) = refl
+accumulator_of_exactly Failed = refl
 
 accumulate_all_failed : (ds : List Delta) → accumulate_all failed ds ≡ failed
 unfolding accumulate_all accumulate

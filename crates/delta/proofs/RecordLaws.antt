@@ -4,12 +4,11 @@ use mathlib.Core.Path.{◌≡◌, sym, ap, ap₂, ◌∙◌}
 use mathlib.Core.Bool.{true, not, ◌&&◌}
 use mathlib.Core.List.{List}
 use Prim.Native.Nat.{ℕ, ◌≤◌}
+use native.Mathlib.Omega.{arith}
 use lib.Dec.{leb}
 use lib.IntN.{nat_abs}
 use lib.ListN.{get_or}
-use borrow.Author.Tests.{leb-true}
-use Rattle.lists.proofs.Bools.{and_left, and_right}
-use Rattle.number.specs.Number.{value_of, number_of}
+use Rattle.number.specs.Number.{value_of}
 use Rattle.number.proofs.Halves.{value_of_number_of, number_of_value_of}
 use Rattle.delta.specs.declared.DeltaOp.{DeltaOp}
 use Rattle.delta.specs.Delta.{Delta, valid, is_negative, signed, sign_word, number_at, minus_zero, minus_at, delta_at, delta_ok}
@@ -18,36 +17,29 @@ use Rattle.delta.proofs.DeltaFormat.{size_signed, signed_back, minus_word, word_
 
 pub exact_op_of : (d : Delta) → exact (op_of d) ≡ d
 unfolding exact op_of
-exact_op_of d = λ i. record { limit = value_of_number_of d.limit i; high = value_of_number_of d.high i; low = value_of_number_of d.low i; update = update i }
-  where
-    update : signed (is_negative (sign_word d.update)) (value_of (number_of (nat_abs d.update))) ≡ d.update
-    update = ap₂ signed (minus_word d.update) (value_of_number_of (nat_abs d.update)) ∙ signed_back d.update
+exact_op_of d = grind (arith, value_of_number_of, minus_word, signed_back)
 
 valid_op_sign : (o : DeltaOp) → valid_op o ≡ true → o.sign ≤ 1
 unfolding valid_op
-valid_op_sign o v = leb-true _ _ (and_left (leb o.sign 1) _ (and_left _ _ v))
+valid_op_sign o v = grind arith
 
 valid_op_zero : (o : DeltaOp) → valid_op o ≡ true → not (minus_zero (is_negative o.sign) (value_of o.update)) ≡ true
 unfolding valid_op
-valid_op_zero o v = and_right (leb o.sign 1) _ (and_left _ (valid (exact o)) v)
+valid_op_zero o v = grind arith
 
 pub valid_op_valid : (o : DeltaOp) → valid_op o ≡ true → valid (exact o) ≡ true
 unfolding valid_op
-valid_op_valid o v = and_right (leb o.sign 1 && not (minus_zero (is_negative o.sign) (value_of o.update))) _ v
+valid_op_valid o v = grind arith
 
 pub op_of_exact : (o : DeltaOp) → AllHalves o → valid_op o ≡ true → op_of (exact o) ≡ o
 unfolding exact op_of
-op_of_exact o g v = λ i. record { limit = number_of_value_of o.limit g.limit i; high = number_of_value_of o.high g.high i; low = number_of_value_of o.low g.low i; update = update i; sign = sign i }
-  where
-    update : number_of (nat_abs (signed (is_negative o.sign) (value_of o.update))) ≡ o.update
-    update = ap number_of (size_signed (is_negative o.sign) (value_of o.update)) ∙ number_of_value_of o.update g.update
-
-    sign : sign_word (signed (is_negative o.sign) (value_of o.update)) ≡ o.sign
-    sign = word_signed o.sign (value_of o.update) (valid_op_sign o v) (valid_op_zero o v)
+op_of_exact o g v =
+    let s = word_signed o.sign (value_of o.update) (valid_op_sign o v) (valid_op_zero o v) in
+    grind (arith, number_of_value_of, size_signed)
 
 pub exact_op_at : (ws : List ℕ) → exact (op_at ws) ≡ delta_at ws
 unfolding exact op_at delta_at minus_at
-exact_op_at ws = λ i. record { limit = value_of_number_of (number_at ws 0) i; high = value_of_number_of (number_at ws 4) i; low = value_of_number_of (number_at ws 8) i; update = signed (minus_at ws) (value_of_number_of (number_at ws 12) i) }
+exact_op_at ws = grind (arith, value_of_number_of)
 
 pub valid_op_op_of : (d : Delta) → valid d ≡ true → valid_op (op_of d) ≡ true
 unfolding valid_op op_of
@@ -71,10 +63,7 @@ resigned o = λ i. record { limit = value_of o.limit; high = value_of o.high; lo
 
 pub op_of_resigned : (o : DeltaOp) → AllHalves o → op_of (exact o) ≡ record o { sign = sign_word (exact o).update }
 unfolding exact op_of
-op_of_resigned o g = λ i. record { limit = number_of_value_of o.limit g.limit i; high = number_of_value_of o.high g.high i; low = number_of_value_of o.low g.low i; update = update i; sign = sign_word (signed (is_negative o.sign) (value_of o.update)) }
-  where
-    update : number_of (nat_abs (signed (is_negative o.sign) (value_of o.update))) ≡ o.update
-    update = ap number_of (size_signed (is_negative o.sign) (value_of o.update)) ∙ number_of_value_of o.update g.update
+op_of_resigned o g = grind (arith, number_of_value_of, size_signed)
 
 -- ---- what a `ValidDelta` holds
 

@@ -6,6 +6,7 @@ ghost use Rattle.delta.specs.Op.{merged_of, accumulator_of, merge_ops, fold_reco
 use crate::{Accumulator, DeltaOp, ValidDelta};
 
 // The newer delta is lent, and merged onto the previous one where it stands. A failure leaves it as it was.
+// Kept: the scope names a delta that is lent by &mut and updated; the answer can then only be whether it was merged.
 pub fn merge_with_previous_delta(newer: &mut ValidDelta, previous: ValidDelta) -> bool
     ensures answers { result ≡ is_some (merged_of (merge newer.old previous)) }
     ensures merges { newer.new ≡ unwrap_or (merged_of (merge newer.old previous)) newer.old }
@@ -50,6 +51,7 @@ pub fn fold(records: &[DeltaOp]) -> Accumulator
 }
 
 // The same with plain parameters: the first `count` records of an array, or all of them.
+// Kept: the scope names arrays in the program, and plain parameters above the lent form.
 pub fn fold_first(run: [DeltaOp; 8], count: usize) -> Accumulator
     ensures folds { result ≡ accumulator_of (fold_records (take count run)) }
 {

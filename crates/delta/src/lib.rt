@@ -12,7 +12,7 @@ pub use valid::ValidDelta;
 
 pub mod lent;
 mod signed;
-pub mod valid;
+mod valid;
 pub mod words;
 
 // A delta, or a record that may be none: anybody may have written it. The Rust's `DeltaOp` holds the same in its own form.
@@ -26,12 +26,13 @@ pub struct DeltaOp {
     pub low: Number,
     // The size of the update (01: u).
     pub update: Number,
-    // The sign of the update (01: 0 plus, 1 minus). As wide as the rest: a narrower field would
-    // leave padding, which is slow to copy.
+    // The sign of the update (01: 0 plus, 1 minus).
+    // Kept: a bad record may hold any number here, and a field narrower than the rest would leave padding, which is slow to copy.
     pub sign: u64,
 }
 
 // What a walk over deltas, newest first, has gathered.
+// Kept: the scope names a three-way enum here, for the Rust's `Option<Result<DeltaOp, ()>>`.
 #[derive(Clone, Copy)]
 pub enum Accumulator {
     Empty,

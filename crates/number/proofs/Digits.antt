@@ -1,6 +1,6 @@
 -- Laws of numbers in words of 32 bits, low word first, at any width.
 -- Assumes nothing.
-use Rattle.std.proofs.Common.{◌≡◌, ℕ, zero, suc, ◌+◌, ◌*◌, ◌/◌, ◌%◌, ◌^◌, ◌<◌, ◌≤◌, List, [], ◌∷◌, ◌++◌, length, get_or, take, drop, set, sym, refl, ap, ◌∙◌, ap₂, mod-lt, mod-eq_of_lt, mul_assoc, mul_comm, div-lt_iff_lt-mul, suc-add, mul-le-mul_left, zero-add, mul-add, add-one, arith, lit<, length-drop, length-take-le, get_or-drop, drop-cons, drop-drop, take-add}
+use Rattle.std.proofs.Common.{◌≡◌, ℕ, zero, suc, ◌+◌, ◌*◌, ◌/◌, ◌%◌, ◌^◌, ◌<◌, ◌≤◌, List, [], ◌∷◌, ◌++◌, length, take, drop, sym, refl, ap, ◌∙◌, ap₂, mod-lt, mod-eq_of_lt, mul_assoc, mul_comm, div-lt_iff_lt-mul, suc-add, mul-le-mul_left, zero-add, mul-add, arith, lit<, length-drop, length-take-le, get_or-drop, drop-drop, take-add}
 use native.Mathlib.Nat.{pow-succ', pow-zero, div-eq_of_lt, mod-add-div, add-mul-mod_self_left, add-mul-div_left}
 use lib.Seq.{sets}
 use Rattle.number.specs.declared.Number.{Number}
@@ -108,11 +108,6 @@ value_four v h = value_digits 4 v (rw range_words at h)
 pub four_below : (ws : List ℕ) → AreWords ws → length ws ≡ 4 → value_of_words ws < range
 four_below ws g e = rw range_words (rw e at (value_words_below ws g))
 
-pub half_is : (s : List ℕ) (at low high : ℕ) → at + 2 ≤ length s → low ≡ get_or s at 0 → high ≡ get_or s (at + 1) 0 → low + 2 ^ 32 * high ≡ value_of_words (take 2 (drop at s))
-unfolding value_of_words
-half_is s at low high h e₁ e₂ =
-    rw (drop-cons s at 0 (omega arith), drop-cons s (suc at) 0 (omega arith), ← add-one at, ← e₁, ← e₂) (omega arith)
-
 pub number_is : (s : List ℕ) (at lo hi : ℕ) → AreWords s → at + 4 ≤ length s → lo ≡ value_of_words (take 2 (drop at s)) → hi ≡ value_of_words (take 2 (drop (at + 2) s)) → ◌≡◌ {A = Number} (record { lo = lo; hi = hi }) (number_of (value_of_words (take 4 (drop at s))))
 number_is s at lo hi g h e₁ e₂ = sym (ap number_of whole ∙ number_of_halves lo hi below)
   where
@@ -128,10 +123,6 @@ number_is s at lo hi g h e₁ e₂ = sym (ap number_of whole ∙ number_of_halve
     whole =
         ap value_of_words (take-add 2 2 (drop at s)) ∙ value_append (take 2 (drop at s)) (take 2 (drop 2 (drop at s)))
         ∙ rw (two, drop-drop 2 at s, e₁, e₂, mul_comm (2 ^ 64))
-
-pub half_put : (s : List ℕ) (at half : ℕ) → half < 2 ^ 64 → set (set s at (half % 2 ^ 32)) (at + 1) (half / 2 ^ 32) ≡ sets s at (digits 2 half)
-unfolding digits
-half_put s at half h = rw (add-one, mod-eq_of_lt {n = half / 2 ^ 32} {m = 2 ^ 32} (omega arith))
 
 pub number_put : (s s₁ s₂ : List ℕ) (at : ℕ) (n : Number) → Halves n → s₁ ≡ sets s at (digits 2 n.lo) → s₂ ≡ sets s₁ (at + 2) (digits 2 n.hi) → s₂ ≡ sets s at (digits 4 (value_of n))
 unfolding value_of

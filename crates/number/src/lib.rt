@@ -22,6 +22,7 @@ pub struct Number {
 
 // The carry of a + b out of 64 bits, 1 or 0: the wrapped sum is less than an addend exactly if
 // the sum wrapped.
+// Kept: wrapping halves, with a carry of 1 or 0 that is added to the next, are a rule of the project.
 fn carry(a: u64, b: u64) -> u64
     ensures carries { result ≡ carry_of a b }
 {
@@ -88,9 +89,8 @@ impl Number {
     }
 }
 
+// Kept: equality and order by hand, since a derive compares the halves, and a contract is to speak of the values.
 impl PartialEq for Number {
-    ghost use Rattle.number.specs.Number.{value_of};
-
     ghost eq = { on value_of nat_eq };
 
     ghost laws = { Prim.search (comparing, rules) };
@@ -105,8 +105,6 @@ impl Eq for Number {
 }
 
 impl Ord for Number {
-    ghost use Rattle.number.specs.Number.{value_of};
-
     ghost cmp = { on value_of nat_cmp };
 
     ghost total = { Prim.search (comparing, rules) };
@@ -121,8 +119,6 @@ impl Ord for Number {
 }
 
 impl PartialOrd for Number {
-    ghost use Rattle.number.specs.Number.{value_of};
-
     ghost partial_cmp = { as_partial_cmp (on value_of nat_cmp) };
 
     ghost laws = { partial_order_from_own_ties (Prim.search (comparing, rules)) (Prim.search (comparing, rules)) };

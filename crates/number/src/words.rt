@@ -1,4 +1,5 @@
 // Numbers in 32-bit words, four to a number, low word first.
+// Kept: the words and a place among them; a subslice for each number would say the same with two bounds.
 #![tactic(auto, unfolding(crate::specs::Words::digits, crate::specs::Words::value_of_words))]
 
 ghost use Rattle.std.specs.Prelude.{◌≡◌, ◌+◌, ◌≤◌, length, take, drop};
