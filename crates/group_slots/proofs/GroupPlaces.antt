@@ -18,7 +18,7 @@ use Rattle.request.specs.Set.{Member}
 use Rattle.slots.specs.Slots
 use Rattle.slots.specs.Slots.{Slot, before, ordered, place_of, held}
 use Rattle.slots.specs.Found.{found_at, found_of}
-use Rattle.slots.specs.declared.search.Found.{Found}
+use Rattle.std.proofs.Common.{Result}
 use Rattle.slots.proofs.SlotOrder.{before_asym, before_irrefl}
 use Rattle.slots.proofs.SlotFinds.{place_between, found_there, found_absent}
 use Rattle.slots.proofs.ZeroWords.{words_same}
@@ -331,7 +331,7 @@ module _ (s : List ℕ) (v : group_valid s ≡ true) where
         let size : j - i ≡ slots_taken (find k p (groups_in s).updates) = omega (arith, first_is, last_is) in
         λ x. record { at = first_is x; len = size x }
 
-  pub member_is : (k p w : ℕ) → w ≡ p → (tag : ℕ) (r : Found) → r ≡ found_at (1 ∷ k ∷ w ∷ (tag + 1) ∷ []) (held s) → r ≡ member_found k p tag (groups_in s)
+  pub member_is : (k p w : ℕ) → w ≡ p → (tag : ℕ) (r : Result ℕ ℕ) → r ≡ found_at (1 ∷ k ∷ w ∷ (tag + 1) ∷ []) (held s) → r ≡ member_found k p tag (groups_in s)
   member_is k p w word tag r e =
       let part : tag + 1 ≡ suc tag = omega arith in
       e ∙ ap₂ (λ (x y : ℕ). found_at (1 ∷ k ∷ x ∷ y ∷ []) (held s)) word part ∙ member_valid k p tag

@@ -15,7 +15,7 @@ use Rattle.types.specs.Value.{value_at, value_width}
 use Rattle.request.specs.Set.{Member}
 use Rattle.slots.specs.Slots.{Slot, slot_width, held, slot_at, padded}
 use Rattle.slots.specs.Found.{found_of}
-use Rattle.slots.specs.declared.search.Found.TheVariants.{There, Absent}
+use Rattle.std.proofs.Common.{Ok, Err}
 use Rattle.slots.proofs.StoreWords.{slot_at_part, slot_at_word}
 use Rattle.slots.proofs.StoreEncoding.{held_fits}
 use Rattle.slots.proofs.SlotPlaces.{slot_at_held}
@@ -150,21 +150,21 @@ pub record CommittedAt (key tag i : ℕ) (s : List ℕ) : Type 0 where
   pub fine : fine_value value ≡ true
   pub words : value_at (slot_width * i + 7) s ≡ value
 
-found_there : {A : Type 0} (n i : ℕ) (o : Option A) (a : A) → o ≡ some a → found_of n o ≡ There i → i ≡ n
+found_there : {A : Type 0} (n i : ℕ) (o : Option A) (a : A) → o ≡ some a → found_of n o ≡ Ok i → i ≡ n
 unfolding found_of
 found_there n i o a e f =
-    let g : There n ≡ There i = rw e at f in
+    let g : Ok n ≡ Ok i = rw e at f in
     let h : n ≡ i = cc in
     sym h
 
-found_none : {A : Type 0} {B : Type 0} (n i : ℕ) (o : Option A) → o ≡ none → found_of n o ≡ There i → B
+found_none : {A : Type 0} {B : Type 0} (n i : ℕ) (o : Option A) → o ≡ none → found_of n o ≡ Ok i → B
 unfolding found_of
 found_none n i o e f =
-    let g : Absent n ≡ There i = rw e at f in
+    let g : Err n ≡ Ok i = rw e at f in
     absurd (let z : ◌≡◌ {A = ℕ} 0 1 = cc in omega arith)
 
 module _ (s : List ℕ) (valid : group_valid s ≡ true) (k p i : ℕ) where
-  pub member_at : (tag : ℕ) → member_found k p tag (groups_in s) ≡ There i → MemberAt k p tag i s
+  pub member_at : (tag : ℕ) → member_found k p tag (groups_in s) ≡ Ok i → MemberAt k p tag i s
   unfolding member_found members_in member_value
   member_at tag e = go (find k p (groups_in s).updates) refl
     where
@@ -193,7 +193,7 @@ module _ (s : List ℕ) (valid : group_valid s ≡ true) (k p i : ℕ) where
           found_none (start_of k p (groups_in s) + lower_in tag (find k p (groups_in s).updates)) i (member_value tag (members_in (find k p (groups_in s).updates))) (rw f) e
       go (some u) f = by_value u f (member_value tag u.members) refl
 
-  pub committed_at : committed_found k p (groups_in s) ≡ There i → CommittedAt k p i s
+  pub committed_at : committed_found k p (groups_in s) ≡ Ok i → CommittedAt k p i s
   unfolding committed_found
   committed_at e = go (find k p (groups_in s).committed) refl
     where
@@ -213,18 +213,18 @@ module _ (s : List ℕ) (valid : group_valid s ≡ true) (k p i : ℕ) where
           }
 
 -- What a search that found nothing tells.
-absent_told : {A : Type 0} (n i : ℕ) (o : Option A) → found_of n o ≡ Absent i → (o ≡ none) × (i ≡ n)
+absent_told : {A : Type 0} (n i : ℕ) (o : Option A) → found_of n o ≡ Err i → (o ≡ none) × (i ≡ n)
 unfolding found_of
 absent_told n i none e = (refl, let h : n ≡ i = cc in sym h)
 absent_told n i (some a) e = absurd (let z : ◌≡◌ {A = ℕ} 0 1 = cc in omega arith)
 
-pub member_none : (s : List ℕ) (k p tag i : ℕ) → member_found k p tag (groups_in s) ≡ Absent i →
+pub member_none : (s : List ℕ) (k p tag i : ℕ) → member_found k p tag (groups_in s) ≡ Err i →
     (member_value tag (members_in (find k p (groups_in s).updates)) ≡ none) × (i ≡ start_of k p (groups_in s) + lower_in tag (find k p (groups_in s).updates))
 unfolding member_found
 member_none s k p tag i e =
     absent_told (start_of k p (groups_in s) + lower_in tag (find k p (groups_in s).updates)) i (member_value tag (members_in (find k p (groups_in s).updates))) e
 
-pub committed_none : (s : List ℕ) (k t i : ℕ) → committed_found k t (groups_in s) ≡ Absent i →
+pub committed_none : (s : List ℕ) (k t i : ℕ) → committed_found k t (groups_in s) ≡ Err i →
     (find k t (groups_in s).committed ≡ none) × (i ≡ updates_held (groups_in s).updates + rank k t (groups_in s).committed)
 unfolding committed_found
 committed_none s k t i e =

@@ -1,7 +1,7 @@
 -- The scan of a group store: each way out of each of its tests.
 -- Assumes nothing.
 use mathlib.Core.Path.{◌≡◌, refl, sym, ◌∙◌, ap}
-use mathlib.Core.Bool.{Bool, true, false, cond, not}
+use mathlib.Core.Bool.{Bool, true, false, cond, not, ◌&&◌}
 use mathlib.Core.List.{List}
 use Prim.Native.Nat.{ℕ, zero, suc, ◌+◌, ◌-◌, ◌*◌, ◌≤◌, ◌<◌}
 use native.Mathlib.Omega.{arith}
@@ -12,7 +12,8 @@ use Rattle.lists.specs.Lists.{front}
 use Rattle.number.specs.Words.{AreWords}
 use Rattle.types.specs.Response.{most_tags}
 use Rattle.types.specs.Value.{value_at, value_ok, is_exchanged, is_deletion}
-use Rattle.slots.specs.Slots.{Slot, slot_width, slots, slot_at, is_used, held, is_before, joined, all_zero, sound}
+use Rattle.moves.specs.Moves.{all_zero}
+use Rattle.slots.specs.Slots.{Slot, slot_width, slots, slot_at, is_used, held, is_before, joined, sound}
 use Rattle.types.specs.Units.{units_in}
 use Rattle.slots.proofs.StoreWords.{slot_at_part, slot_at_word}
 use Rattle.slots.proofs.SlotScans.{joined_next}
@@ -180,44 +181,24 @@ module _ (s : List ℕ) (i : ℕ) where
 
 -- ---- a slot and the one before it
 
-module _ (s : List ℕ) (i j : ℕ) where
-  -- a word of both
-  pair_is : (n x y : ℕ) → n < slot_width → x ≡ get_or s (slot_width * i + n) 0 → y ≡ get_or s (slot_width * j + n) 0 → eqb (get_or (slot_at i s) n 0) (get_or (slot_at j s) n 0) ≡ eqb x y
-  pair_is n x y h e f = rw (word_is s i n x h e, word_is s j n y h f)
+same_parts : (k p f n : Bool) → (k && (p && (f && n))) ≡ (k && p && f && n)
+same_parts true true f n = refl
+same_parts true false f n = refl
+same_parts false p f n = refl
 
-  module _ (a : ℕ) (ea : a ≡ get_or s (slot_width * i + 0) 0) where
-    pub same_other : (a ≡ 1 → ⊥) → false ≡ same_update (slot_at i s) (slot_at j s)
+module _ (s : List ℕ) (i : ℕ) (v : Slot) (a : ℕ) (ea : a ≡ get_or s (slot_width * i + 0) 0) where
+  pub same_other : (a ≡ 1 → ⊥) → false ≡ same_update (slot_at i s) v
+  unfolding same_update
+  same_other h = rw (word_is s i 0 a (omega arith) ea, ne_eqb a 1 h)
+
+  -- the heads of the two slots, as they are compared
+  module _ (h : a ≡ 1) (k p f n l q g m : ℕ) (ek : k ≡ get_or (slot_at i s) 1 0) (ep : p ≡ get_or (slot_at i s) 2 0) (ef : f ≡ get_or (slot_at i s) 5 0)
+      (en : n ≡ get_or (slot_at i s) 6 0) (el : l ≡ get_or v 1 0) (eq : q ≡ get_or v 2 0) (eg : g ≡ get_or v 5 0) (em : m ≡ get_or v 6 0) where
+    pub same_heads : (r : Bool) → r ≡ (eqb k l && (eqb p q && (eqb f g && eqb n m))) → r ≡ same_update (slot_at i s) v
     unfolding same_update
-    same_other h = rw (word_is s i 0 a (omega arith) ea, ne_eqb a 1 h)
-
-    module _ (ha : a ≡ 1) (k l : ℕ) (ek : k ≡ get_or s (slot_width * i + 1) 0) (el : l ≡ get_or s (slot_width * j + 1) 0) where
-      update_there : eqb (get_or (slot_at i s) 0 0) 1 ≡ true
-      update_there = rw (word_is s i 0 a (omega arith) ea) (eq-eqb a 1 ha)
-
-      pub same_key : (k ≡ l → ⊥) → false ≡ same_update (slot_at i s) (slot_at j s)
-      unfolding same_update
-      same_key h = rw (update_there, pair_is 1 k l (omega arith) ek el, ne_eqb k l h)
-
-      module _ (hk : k ≡ l) (p q : ℕ) (ep : p ≡ get_or s (slot_width * i + 2) 0) (eq : q ≡ get_or s (slot_width * j + 2) 0) where
-        key_there : eqb (get_or (slot_at i s) 1 0) (get_or (slot_at j s) 1 0) ≡ true
-        key_there = pair_is 1 k l (omega arith) ek el ∙ eq-eqb k l hk
-
-        pub same_place : (p ≡ q → ⊥) → false ≡ same_update (slot_at i s) (slot_at j s)
-        unfolding same_update
-        same_place h = rw (update_there, key_there, pair_is 2 p q (omega arith) ep eq, ne_eqb p q h)
-
-        module _ (hp : p ≡ q) (f g : ℕ) (ef : f ≡ get_or s (slot_width * i + 5) 0) (eg : g ≡ get_or s (slot_width * j + 5) 0) where
-          place_there : eqb (get_or (slot_at i s) 2 0) (get_or (slot_at j s) 2 0) ≡ true
-          place_there = pair_is 2 p q (omega arith) ep eq ∙ eq-eqb p q hp
-
-          pub same_flag : (f ≡ g → ⊥) → false ≡ same_update (slot_at i s) (slot_at j s)
-          unfolding same_update
-          same_flag h = rw (update_there, key_there, place_there, pair_is 5 f g (omega arith) ef eg, ne_eqb f g h)
-
-          pub same_incarnation : f ≡ g → (m n : ℕ) → m ≡ get_or s (slot_width * i + 6) 0 → n ≡ get_or s (slot_width * j + 6) 0 → eqb m n ≡ same_update (slot_at i s) (slot_at j s)
-          unfolding same_update
-          same_incarnation h m n em en =
-              rw (update_there, key_there, place_there, pair_is 5 f g (omega arith) ef eg, eq-eqb f g h, pair_is 6 m n (omega arith) em en)
+    same_heads r e =
+        rw (word_is s i 0 a (omega arith) ea, eq-eqb a 1 h, ← ek, ← ep, ← ef, ← en, ← el, ← eq, ← eg, ← em)
+        (e ∙ same_parts (eqb k l) (eqb p q) (eqb f g) (eqb n m))
 
 module _ (s : List ℕ) (i : ℕ) (h : i ≡ 0 → ⊥) (o : Bool) (eo : o ≡ is_before (slot_at (i - 1) s) (slot_at i s)) where
   pub joins_order : not o ≡ true → false ≡ joined follows i s

@@ -14,7 +14,8 @@ use Rattle.lists.proofs.Bools.{and_both, and_four, and_left, and_right, and_thre
 use Rattle.types.specs.Response.{most_tags}
 use Rattle.types.specs.Value.{value_at, is_exchanged, is_deletion}
 use Rattle.request.specs.Set.{Member}
-use Rattle.slots.specs.Slots.{Slot, slot_width, padded, all_zero, neighbours}
+use Rattle.moves.specs.Moves.{all_zero}
+use Rattle.slots.specs.Slots.{Slot, slot_width, padded, neighbours}
 use Rattle.slots.proofs.ZeroWords.{all_zero_replicate}
 use Rattle.model.specs.Rows.{Row}
 use Rattle.model.specs.Group.{Update, Committed}

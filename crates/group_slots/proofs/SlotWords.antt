@@ -16,7 +16,8 @@ use Rattle.number.specs.Words.{AreWords}
 use Rattle.number.proofs.Digits.{words_take}
 use Rattle.types.specs.Response.{most_tags}
 use Rattle.types.specs.Value.{value_at, value_ok, is_exchanged, is_deletion}
-use Rattle.slots.specs.Slots.{Slot, slot_width, padded, all_zero}
+use Rattle.moves.specs.Moves.{all_zero}
+use Rattle.slots.specs.Slots.{Slot, slot_width, padded}
 use Rattle.slots.proofs.ZeroWords.{zeros_after}
 use Rattle.model.specs.Fine.{is_word, fine_value, fine_member, fine_committed}
 use Rattle.model.proofs.FineParts.{word_tell, words_every}

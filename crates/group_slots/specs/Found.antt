@@ -1,10 +1,9 @@
 -- Where updates, members and committed values stand among the slots of a group store, as the code learns it.
-use Rattle.std.specs.Prelude.{Bool, ℕ, suc, ◌+◌, ltb, length}
+use Rattle.std.specs.Prelude.{Bool, ℕ, suc, ◌+◌, ltb, length, Result}
 use Rattle.std.proofs.Math.Option.{Option, none, some}
 use Rattle.lists.specs.Lists.{keep}
 use Rattle.request.specs.Set.{Member}
 use Rattle.slots.specs.Found.{found_of}
-use Rattle.slots.specs.declared.search.Found.{Found}
 use Rattle.model.specs.Rows.{is_below, find, rank}
 use Rattle.model.specs.Group.{Update, member_value, members_in}
 use Rattle.model.specs.Model.{updates_held}
@@ -32,9 +31,9 @@ unfoldable pub lower_in : ℕ → Option Update → ℕ
 lower_in tag none = 0
 lower_in tag (some u) = suc (length (keep (is_lower tag) u.members))
 
-unfoldable pub member_found : ℕ → ℕ → ℕ → Groups → Found
+unfoldable pub member_found : ℕ → ℕ → ℕ → Groups → Result ℕ ℕ
 member_found key place tag g =
     found_of (start_of key place g + lower_in tag (find key place g.updates)) (member_value tag (members_in (find key place g.updates)))
 
-unfoldable pub committed_found : ℕ → ℕ → Groups → Found
+unfoldable pub committed_found : ℕ → ℕ → Groups → Result ℕ ℕ
 committed_found key tag g = found_of (updates_held g.updates + rank key tag g.committed) (find key tag g.committed)

@@ -15,6 +15,7 @@ use Rattle.types.specs.Value.{value_at}
 use Rattle.types.specs.Flag.{flag_of}
 use Rattle.types.specs.Units.{lack_of, units_in}
 use Rattle.request.specs.Set.{Member}
+use Rattle.slots.specs.declared.slot.Place.{Place}
 use Rattle.slots.specs.Slots.{Slot, encode, held, padded, same_words}
 use Rattle.model.specs.Rows.{Row}
 use Rattle.model.specs.Group.{Update, Committed}
@@ -25,6 +26,13 @@ use Rattle.model.specs.Fine.{fine_updates, fine_group}
 pub record Groups : Type 0 where
   pub updates : List (Row Update)
   pub committed : Committed
+
+-- The places of a part of an update, and of a committed value.
+abbrev pub update_place : ℕ → ℕ → ℕ → Place
+update_place key place part = record { kind = 1; key = key; index = place; part = part }
+
+abbrev pub committed_place : ℕ → ℕ → Place
+committed_place key tag = record { kind = 2; key = key; index = tag; part = 0 }
 
 -- The slots of an update: the same but for word 3 and the value.
 unfoldable pub part_slot : Row Update → ℕ → List ℕ → Slot

@@ -2,7 +2,8 @@
 use Rattle.std.specs.Prelude.{Bool, true, cond, not, ◌&&◌, List, [], ◌∷◌, leb, eqb, get_or, take, drop}
 use Rattle.types.specs.Response.{most_tags}
 use Rattle.types.specs.Value.{value_at, value_ok, is_exchanged, is_deletion}
-use Rattle.slots.specs.Slots.{Slot, is_before, all_zero}
+use Rattle.moves.specs.Moves.{all_zero}
+use Rattle.slots.specs.Slots.{Slot, is_before}
 
 -- "base entries are done writes of incarnation 0"
 unfoldable pub base_test : Slot → Bool

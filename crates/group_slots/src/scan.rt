@@ -8,8 +8,10 @@ ghost use Rattle.group_slots.specs.Layout.{group_valid};
 ghost use Rattle.group_slots.specs.Tests.{base_test, head_test, member_test, part_test, committed_test, slot_test, is_member, same_update, belongs, follows, first_test};
 
 use crate::layout;
-use slots::scan::{all_zero, rest_zero, zero_from};
-use slots::slot::{in_order, slot_count, word};
+use moves::all_zero;
+use slots::scan::{rest_zero, zero_from};
+use slots::slot::{SLOT_WIDTH, in_order, is_used, word};
+use types::units::units;
 use types::value::ValueWithLayout;
 
 // Whether slot i may be at the base: only done, with incarnation 0.
@@ -59,7 +61,7 @@ fn member_ok(s: &[u32], i: usize) -> bool
     requires inside { i < units_in (length s.now) }
     ensures member { result ≡ member_test (slot_at i s.now) }
 {
-    let v = ValueWithLayout::read(s, 32 * i + layout::VALUE);
+    let v = ValueWithLayout::read(s, SLOT_WIDTH * i + layout::VALUE);
     if !v.ok() {
         return false;
     }
@@ -91,10 +93,14 @@ fn committed_ok(s: &[u32], i: usize) -> bool
     if layout::AFTER_TAGS <= word(s, i, layout::PLACE) {
         return false;
     }
-    if !all_zero(s, 32 * i + layout::PART, 32 * i + layout::VALUE) {
+    if !all_zero(
+        s,
+        SLOT_WIDTH * i + layout::PART,
+        SLOT_WIDTH * i + layout::VALUE,
+    ) {
         return false;
     }
-    let v = ValueWithLayout::read(s, 32 * i + layout::VALUE);
+    let v = ValueWithLayout::read(s, SLOT_WIDTH * i + layout::VALUE);
     if !v.ok() {
         return false;
     }
@@ -109,14 +115,11 @@ fn slot_ok(s: &[u32], i: usize) -> bool
     requires inside { i < units_in (length s.now) }
     ensures slot { result ≡ slot_test (slot_at i s.now) }
 {
-    let kind = word(s, i, 0);
-    if kind == layout::UPDATE {
-        return part_ok(s, i);
+    match word(s, i, 0) {
+        layout::UPDATE => part_ok(s, i),
+        layout::COMMITTED => committed_ok(s, i),
+        _ => false,
     }
-    if kind == layout::COMMITTED {
-        return committed_ok(s, i);
-    }
-    false
 }
 
 fn is_member(s: &[u32], i: usize) -> bool
@@ -129,6 +132,32 @@ fn is_member(s: &[u32], i: usize) -> bool
     word(s, i, layout::PART) != 0
 }
 
+// What all slots of an update have.
+#[derive(Clone, Copy, PartialEq, Eq)]
+struct Head {
+    key: u32,
+    index: u32,
+    flag: u32,
+    incarnation: u32,
+}
+
+impl Head {
+    fn read(s: &[u32], i: usize) -> Head
+        requires inside { i < units_in (length s.now) }
+        ensures key { result.key ≡ get_or (slot_at i s.now) 1 0 }
+        ensures index { result.index ≡ get_or (slot_at i s.now) 2 0 }
+        ensures flag { result.flag ≡ get_or (slot_at i s.now) 5 0 }
+        ensures incarnation { result.incarnation ≡ get_or (slot_at i s.now) 6 0 }
+    {
+        Head {
+            key: word(s, i, layout::KEY),
+            index: word(s, i, layout::PLACE),
+            flag: word(s, i, layout::FLAG),
+            incarnation: word(s, i, layout::INCARNATION),
+        }
+    }
+}
+
 // Whether slot i is of the update that slot j names: key and index, flag and incarnation.
 fn same_update(s: &[u32], i: usize, j: usize) -> bool
     requires inside { i < units_in (length s.now) }
@@ -138,16 +167,9 @@ fn same_update(s: &[u32], i: usize, j: usize) -> bool
     if word(s, i, 0) != layout::UPDATE {
         return false;
     }
-    if word(s, i, layout::KEY) != word(s, j, layout::KEY) {
-        return false;
-    }
-    if word(s, i, layout::PLACE) != word(s, j, layout::PLACE) {
-        return false;
-    }
-    if word(s, i, layout::FLAG) != word(s, j, layout::FLAG) {
-        return false;
-    }
-    word(s, i, layout::INCARNATION) == word(s, j, layout::INCARNATION)
+    let update = Head::read(s, i);
+    let part = Head::read(s, j);
+    update == part
 }
 
 // Whether slot i stands after the one before it, and is no member of another update.
@@ -171,7 +193,7 @@ fn joins(s: &[u32], i: usize) -> bool
 fn first_ok(s: &[u32]) -> bool
     ensures first { result ≡ first_test (held s.now) }
 {
-    if slot_count(s) == 0 {
+    if units(s) == 0 {
         return true;
     }
     !is_member(s, 0)
@@ -180,10 +202,8 @@ fn first_ok(s: &[u32]) -> bool
 fn slots_ok(s: &[u32]) -> bool
     ensures sound { result ≡ sound slot_test follows s.now }
 {
-    let n = slot_count(s);
-    let mut i = 0;
-    while i < n {
-        if word(s, i, 0) == 0 {
+    for i in 0..units(s) {
+        if !is_used(s, i) {
             return zero_from(s, i);
         }
         if !slot_ok(s, i) {
@@ -192,7 +212,6 @@ fn slots_ok(s: &[u32]) -> bool
         if !joins(s, i) {
             return false;
         }
-        i += 1;
     }
     true
 }

@@ -10,11 +10,7 @@ pub fn move_up(s: &mut [u32], low: usize, end: usize, gap: usize)
     requires inside { end + gap ≤ length s.old }
     ensures raised { Raised gap low end s.old s.new }
 {
-    let mut k = end;
-    while low < k {
-        k -= 1;
-        s[k + gap] = s[k];
-    }
+    s.copy_within(low..end, low + gap);
 }
 
 // n words copied, to lower ones or to others.
@@ -24,11 +20,7 @@ pub fn copy_within(s: &mut [u32], to: usize, from: usize, n: usize)
     requires clear { Clear to from n }
     ensures copied { Copied to from n s.old s.new }
 {
-    let mut j = 0;
-    while j < n {
-        s[to + j] = s[from + j];
-        j += 1;
-    }
+    s.copy_within(from..from + n, to);
 }
 
 // n words made zero.
@@ -36,26 +28,14 @@ pub fn clear(s: &mut [u32], at: usize, n: usize)
     requires inside { at + n ≤ length s.old }
     ensures cleared { Cleared at n s.old s.new }
 {
-    let mut j = 0;
-    while j < n {
-        s[at + j] = 0;
-        j += 1;
-    }
+    s[at..at + n].fill(0);
 }
 
-// Whether the words from `from` up to `to` are zero. It reads them all: a loop that stops at the first other word is not vectorised.
+// Whether the words from `from` up to `to` are zero. It reads them all: `all`, which stops at the first other word, is not vectorised.
 pub fn all_zero(s: &[u32], from: usize, to: usize) -> bool
     requires order { from ≤ to }
     requires inside { to ≤ length s.now }
     ensures zero { result ≡ all_zero (take (to - from) (drop from s.now)) }
 {
-    let mut ok = true;
-    let mut i = from;
-    while i < to {
-        if s[i] != 0 {
-            ok = false;
-        }
-        i += 1;
-    }
-    ok
+    s[from..to].iter().fold(true, |ok, &w| ok & (w == 0))
 }

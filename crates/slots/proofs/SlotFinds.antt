@@ -14,7 +14,7 @@ use Rattle.lists.proofs.Lists.{every_append, every_imp, front_append}
 use Rattle.slots.specs.Slots.{Slot, slot_at, held, is_used, packed, before, is_before, same_words, is_at, ordered, place_of}
 use Rattle.types.specs.Units.{units_in}
 use Rattle.slots.specs.Found.{is_there, found_at, is_among}
-use Rattle.slots.specs.declared.search.Found.TheVariants.{There, Absent}
+use Rattle.std.proofs.Common.{Ok, Err}
 use Rattle.slots.proofs.StoreEncoding.{held_fits, packed_ordered}
 use Rattle.slots.proofs.SlotOrder.{before_irrefl, before_asym, ordered_across}
 use Rattle.slots.proofs.SlotPlaces.{place_fits, nothing_at, at_level, absent_all, slot_at_held, used_test}
@@ -84,7 +84,7 @@ module _ (k : List ℕ) where
   after_not_before u e = rw (before_asym k (take 4 u) e)
 
   -- what is found where a slot stands, and where none does
-  pub found_there : (us vs : List Slot) (u : Slot) → ordered (us ++ (u ∷ vs)) ≡ true → is_at k u ≡ true → found_at k (us ++ (u ∷ vs)) ≡ There (length us)
+  pub found_there : (us vs : List Slot) (u : Slot) → ordered (us ++ (u ∷ vs)) ≡ true → is_at k u ≡ true → found_at k (us ++ (u ∷ vs)) ≡ Ok (length us)
   unfolding found_at is_before every
   found_there us vs u e f =
       let here : take 4 u ≡ k = at_level k u f in
@@ -97,7 +97,7 @@ module _ (k : List ℕ) where
       in
       rw (is_there_here us vs u f, place)
 
-  pub found_absent : (us vs : List Slot) → every (λ u. before (take 4 u) k) us ≡ true → every (λ v. before k (take 4 v)) vs ≡ true → found_at k (us ++ vs) ≡ Absent (length us)
+  pub found_absent : (us vs : List Slot) → every (λ u. before (take 4 u) k) us ≡ true → every (λ v. before k (take 4 v)) vs ≡ true → found_at k (us ++ vs) ≡ Err (length us)
   unfolding found_at
   found_absent us vs e f =
       let none : every (λ u. not (is_at k u)) (us ++ vs) ≡ true =
@@ -106,13 +106,13 @@ module _ (k : List ℕ) where
       in
       rw (is_there_none (us ++ vs) none, place_between us vs e (every_imp (λ v. before k (take 4 v)) (λ v. not (before (take 4 v) k)) after_not_before vs f))
 
-  pub absent_told : (us : List Slot) (i : ℕ) → Absent i ≡ found_at k us → (is_there k us ≡ false) × (i ≡ place_of k us)
+  pub absent_told : (us : List Slot) (i : ℕ) → Err i ≡ found_at k us → (is_there k us ≡ false) × (i ≡ place_of k us)
   unfolding found_at
   absent_told us i e = go (is_there k us) refl
     where
       go : (b : Bool) → is_there k us ≡ b → (is_there k us ≡ false) × (i ≡ place_of k us)
-      go true f = absurd (let g : Absent i ≡ There (place_of k us) = rw f at e in let z : ◌≡◌ {A = ℕ} 0 1 = cc in omega arith)
-      go false f = (f, let g : Absent i ≡ Absent (place_of k us) = rw f at e in cc)
+      go true f = absurd (let g : Err i ≡ Ok (place_of k us) = rw f at e in let z : ◌≡◌ {A = ℕ} 0 1 = cc in omega arith)
+      go false f = (f, let g : Err i ≡ Err (place_of k us) = rw f at e in cc)
 
   -- among slots in order one is there exactly where the one at the place is
   module _ (us : List Slot) (rising : ordered us ≡ true) (four : length k ≡ 4) where
@@ -170,18 +170,18 @@ module _ (s : List ℕ) (rising : packed s ≡ true) (a b c d : ℕ) (inUse : 0 
           unused_not_at a (b ∷ c ∷ d ∷ []) (slot_at i s) inUse (used_test s rising i h ∙ le-ltb i (length (held s)) (omega arith))
           ∙ sym (there_slot ∙ past_not_at (omega arith))
 
-  pub find_full : n ≤ i → Absent i ≡ found_at (a ∷ b ∷ c ∷ d ∷ []) (held s)
+  pub find_full : n ≤ i → Err i ≡ found_at (a ∷ b ∷ c ∷ d ∷ []) (held s)
   unfolding found_at
   find_full h =
       rw (there_slot ∙ past_not_at (omega (arith, held_fits s)), ← search)
 
-  pub find_there : i < n → (r : Bool) → r ≡ is_at (a ∷ b ∷ c ∷ d ∷ []) (slot_at i s) → r ≡ true → There i ≡ found_at (a ∷ b ∷ c ∷ d ∷ []) (held s)
+  pub find_there : i < n → (r : Bool) → r ≡ is_at (a ∷ b ∷ c ∷ d ∷ []) (slot_at i s) → r ≡ true → Ok i ≡ found_at (a ∷ b ∷ c ∷ d ∷ []) (held s)
   unfolding found_at
   find_there h r e f =
       let t : is_there (a ∷ b ∷ c ∷ d ∷ []) (held s) ≡ true = sym (at_slot (omega arith)) ∙ sym e ∙ f in
       rw (t, ← search)
 
-  pub find_absent : i < n → (r : Bool) → r ≡ is_at (a ∷ b ∷ c ∷ d ∷ []) (slot_at i s) → r ≡ false → Absent i ≡ found_at (a ∷ b ∷ c ∷ d ∷ []) (held s)
+  pub find_absent : i < n → (r : Bool) → r ≡ is_at (a ∷ b ∷ c ∷ d ∷ []) (slot_at i s) → r ≡ false → Err i ≡ found_at (a ∷ b ∷ c ∷ d ∷ []) (held s)
   unfolding found_at
   find_absent h r e f =
       let t : is_there (a ∷ b ∷ c ∷ d ∷ []) (held s) ≡ false = sym (at_slot (omega arith)) ∙ sym e ∙ f in

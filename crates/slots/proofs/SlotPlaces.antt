@@ -3,7 +3,7 @@
 use mathlib.Core.Path.{◌≡◌, refl, sym, ◌∙◌, ap}
 use mathlib.Core.Bool.{Bool, true, false, cond, not, ◌&&◌}
 use mathlib.Core.List.{List, [], ◌∷◌}
-use Prim.Native.Nat.{ℕ, ◌+◌, ◌-◌, ◌*◌, ◌≤◌, ◌<◌}
+use Prim.Native.Nat.{ℕ, ◌+◌, ◌-◌, ◌≤◌, ◌<◌}
 use native.Mathlib.Omega.{arith}
 use native.Mathlib.Decide.{dec_lt}
 use lib.Dec.{ltb}
@@ -13,11 +13,10 @@ use borrow.Author.Tests.{not-true, ltb-true, ltb-false, lt-ltb, le-ltb}
 use Rattle.lists.specs.Lists.{every, front}
 use Rattle.lists.proofs.Bools.{and_left, and_right, true_not_false}
 use Rattle.lists.proofs.Lists.{every_at, every_front, every_imp, every_of, front_take, length_front}
-use Rattle.slots.specs.Slots.{Slot, slot_width, is_whole, is_used, slot_at, held, packed, encode, before, is_before, same_words, is_at, ordered, place_of}
+use Rattle.slots.specs.Slots.{Slot, is_whole, is_used, slot_at, held, packed, encode, before, is_before, same_words, is_at, ordered, place_of}
 use Rattle.types.specs.Units.{units_in}
 use Rattle.slots.proofs.StoreWords.{whole_length}
 use Rattle.slots.proofs.StoreEncoding.{held_whole, held_used, held_fits, packed_ordered, encode_held, slot_at_encode, unused_encode}
-use Rattle.slots.proofs.SlotCompares.{word_used, word_unused}
 use Rattle.slots.proofs.SlotOrder.{before_irrefl, before_trans, Side, lower, level, upper, side, ordered_at}
 use Rattle.slots.proofs.ZeroWords.{same_words_lem, words_same}
 
@@ -170,21 +169,45 @@ module _ (s : List ℕ) (rising : packed s ≡ true) (i : ℕ) (h : i < units_in
           (sym (le-ltb i (place_of k (held s)) (omega (arith, place_fits k (held s)))))
 
   -- what each answer of a test tells a search
-  pub search_up : (k : List ℕ) (r : Bool) → r ≡ (is_used (slot_at i s) && before (take 4 (slot_at i s)) k) → r ≡ true → i + 1 ≤ place_of k (held s)
+  search_up : (k : List ℕ) (r : Bool) → r ≡ (is_used (slot_at i s) && before (take 4 (slot_at i s)) k) → r ≡ true → i + 1 ≤ place_of k (held s)
   search_up k r e f = omega (arith, ltb-true i (place_of k (held s)) (sym (search_test k) ∙ sym e ∙ f))
 
-  pub search_down : (k : List ℕ) (r : Bool) → r ≡ (is_used (slot_at i s) && before (take 4 (slot_at i s)) k) → r ≡ false → place_of k (held s) ≤ i
+  search_down : (k : List ℕ) (r : Bool) → r ≡ (is_used (slot_at i s) && before (take 4 (slot_at i s)) k) → r ≡ false → place_of k (held s) ≤ i
   search_down k r e f = ltb-false i (place_of k (held s)) (sym (search_test k) ∙ sym e ∙ f)
 
-  pub used_up : (x : ℕ) → x ≡ get_or s (slot_width * i + 0) 0 → (x ≡ 0 → ⊥) → i + 1 ≤ length (held s)
-  used_up x e f = omega (arith, ltb-true i (length (held s)) (sym used_test ∙ word_used i s h x e f))
+  used_up : is_used (slot_at i s) ≡ true → i + 1 ≤ length (held s)
+  used_up e = omega (arith, ltb-true i (length (held s)) (sym used_test ∙ e))
 
-  pub used_down : (x : ℕ) → x ≡ get_or s (slot_width * i + 0) 0 → x ≡ 0 → length (held s) ≤ i
-  used_down x e f = ltb-false i (length (held s)) (sym used_test ∙ word_unused i s h x e f)
+  used_down : is_used (slot_at i s) ≡ false → length (held s) ≤ i
+  used_down e = ltb-false i (length (held s)) (sym used_test ∙ e)
 
--- a search ends at the place
-pub place_inside : (k s : List ℕ) (n : ℕ) → n ≡ units_in (length s) → place_of k (held s) ≤ n
-place_inside k s n e = omega (arith, place_fits k (held s), held_fits s)
+-- a search ends at the place: what stands before it passes, and it fails
+module _ (s : List ℕ) (rising : packed s ≡ true) (r n : ℕ) (size : n ≡ units_in (length s)) (within : r ≤ n) where
+  pub search_point : (k : List ℕ) → (0 < r → true ≡ (is_used (slot_at (r - 1) s) && before (take 4 (slot_at (r - 1) s)) k)) →
+      (r < n → false ≡ (is_used (slot_at r s) && before (take 4 (slot_at r s)) k)) → (r ≡ place_of k (held s)) × (r ≤ length (held s))
+  search_point k last first =
+      let low : r ≤ place_of k (held s) = go (dec_lt 0 r) in
+      let high : place_of k (held s) ≤ r = stop (dec_lt r n) in
+      (omega arith, omega (arith, place_fits k (held s)))
+    where
+      go : Dec (0 < r) → r ≤ place_of k (held s)
+      go (yes h) = omega (arith, search_up s rising (r - 1) (omega arith) k true (last h) refl)
+      go (no h) = omega arith
 
-pub place_met : (k s : List ℕ) (lo hi : ℕ) → lo ≤ place_of k (held s) → place_of k (held s) ≤ hi → hi ≤ lo → (lo ≡ place_of k (held s)) × (lo ≤ length (held s))
-place_met k s lo hi h g e = (omega arith, omega (arith, place_fits k (held s)))
+      stop : Dec (r < n) → place_of k (held s) ≤ r
+      stop (yes h) = search_down s rising r (omega arith) k false (first h) refl
+      stop (no h) = omega (arith, place_fits k (held s), held_fits s)
+
+  pub used_point : (0 < r → true ≡ is_used (slot_at (r - 1) s)) → (r < n → false ≡ is_used (slot_at r s)) → r ≡ length (held s)
+  used_point last first =
+      let low : r ≤ length (held s) = go (dec_lt 0 r) in
+      let high : length (held s) ≤ r = stop (dec_lt r n) in
+      omega arith
+    where
+      go : Dec (0 < r) → r ≤ length (held s)
+      go (yes h) = omega (arith, used_up s rising (r - 1) (omega arith) (sym (last h)))
+      go (no h) = omega arith
+
+      stop : Dec (r < n) → length (held s) ≤ r
+      stop (yes h) = used_down s rising r (omega arith) (sym (first h))
+      stop (no h) = omega (arith, held_fits s)

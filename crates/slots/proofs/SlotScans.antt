@@ -1,4 +1,4 @@
--- Scans: the turns of a loop over words that are to be zero, and of one that tests each slot and each two neighbours.
+-- Scans: zeros in slots, and the turns of a loop that tests each slot and each two neighbours.
 -- Assumes nothing.
 use mathlib.Core.Path.{◌≡◌, refl, sym, ◌∙◌, ap}
 use mathlib.Core.Bool.{Bool, true, false, ◌&&◌}
@@ -6,40 +6,17 @@ use mathlib.Core.List.{List, [], ◌∷◌, ◌++◌}
 use Prim.Native.Nat.{ℕ, zero, suc, ◌+◌, ◌-◌, ◌*◌, ◌≤◌, ◌<◌}
 use native.Mathlib.Omega.{arith}
 use native.Mathlib.Numerals.{add-one}
-use lib.Dec.{eqb}
-use lib.ListN.{length, get_or, take, drop}
-use lib.Seq.{drop-drop, drop-cons, append_snoc}
-use borrow.Author.Tests.{eq-eqb, ne_eqb}
+use lib.ListN.{length, take, drop}
+use lib.Seq.{drop-drop, append_snoc}
 use Rattle.lists.specs.Lists.{every}
 use Rattle.lists.proofs.Bools.{and_both, and_left, and_right, and_swap, true_not_false}
 use Rattle.lists.proofs.Lists.{every_append, every_at}
-use Rattle.slots.specs.Slots.{Slot, slot_width, slots, slot_at, is_used, held, neighbours, joined, all_zero, is_zero_from, sound}
+use Rattle.moves.specs.Moves.{all_zero}
+use Rattle.slots.specs.Slots.{Slot, slot_width, slots, slot_at, is_used, held, neighbours, joined, is_zero_from, sound}
 use Rattle.types.specs.Units.{units_in}
 use Rattle.slots.proofs.StoreWords.{drop_take, length_slots, slots_more}
 use Rattle.slots.proofs.StoreEncoding.{held_at, held_slots, held_long, held_stop, held_fits}
 use Rattle.slots.proofs.SlotOrder.{neighbours_at, neighbours_snoc}
-
-module _ (s : List ℕ) (i to : ℕ) (some : i < to) (inside : to ≤ length s) where
-  zero_cons : all_zero (take (to - i) (drop i s)) ≡ (eqb (get_or s i 0) 0 && all_zero (take (to - (i + 1)) (drop (i + 1) s)))
-  unfolding all_zero
-  zero_cons =
-      let e : to - i ≡ suc (to - (i + 1)) = omega arith in
-      let f : drop i s ≡ get_or s i 0 ∷ drop (i + 1) s = rw (add-one i) (drop-cons s i 0 (omega arith)) in
-      rw (e, f)
-
-  -- a word that is zero leaves the answer to the rest, another one settles it
-  module _ (ok now all : Bool) (left : (ok && all_zero (take (to - i) (drop i s))) ≡ all) where
-    pub zero_kept : get_or s i 0 ≡ 0 → now ≡ ok → (now && all_zero (take (to - (i + 1)) (drop (i + 1) s))) ≡ all
-    zero_kept e f = rw f (ap (λ (b : Bool). ok && b) (sym (zero_cons ∙ rw (eq-eqb (get_or s i 0) 0 e))) ∙ left)
-
-    pub zero_lost : (get_or s i 0 ≡ 0 → ⊥) → now ≡ false → (now && all_zero (take (to - (i + 1)) (drop (i + 1) s))) ≡ all
-    zero_lost e f = rw f (sym (sym left ∙ ap (λ (b : Bool). ok && b) (zero_cons ∙ rw (ne_eqb (get_or s i 0) 0 e)) ∙ and_swap ok false))
-
-pub zero_done : (s : List ℕ) (i to : ℕ) (ok all : Bool) → (ok && all_zero (take (to - i) (drop i s))) ≡ all → to ≤ i → ok ≡ all
-unfolding all_zero
-zero_done s i to ok all e h =
-    let f : to - i ≡ 0 = omega arith in
-    and_swap true ok ∙ (rw f at e)
 
 -- the words of a slot from one on
 pub rest_is : (s : List ℕ) (i j : ℕ) (r : Bool) → j ≤ slot_width → r ≡ all_zero (take (slot_width * i + slot_width - (slot_width * i + j)) (drop (slot_width * i + j) s)) →

@@ -9,7 +9,8 @@ use lib.ListN.{length, replicate, take, drop, take-append-drop, length-drop}
 use borrow.Author.Tests.{eqb-true, eq-eqb}
 use native.Mathlib.Omega.{arith}
 use Rattle.lists.proofs.Bools.{and_left, and_right, and_assoc, true_not_false}
-use Rattle.slots.specs.Slots.{all_zero, same_words}
+use Rattle.moves.specs.Moves.{all_zero}
+use Rattle.slots.specs.Slots.{same_words}
 
 pub all_zero_replicate : (n : ℕ) → all_zero (replicate n 0) ≡ true
 unfolding all_zero

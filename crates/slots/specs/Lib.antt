@@ -1,3 +1,4 @@
 pub mod Slots
+pub mod Place
 pub mod Found
 pub mod Runs

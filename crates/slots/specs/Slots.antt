@@ -1,6 +1,7 @@
 -- A store in lent words: slots (01: units) of 32 words, those in use packed at the front in rising order, then zeros. Both stores are laid out so.
 use Rattle.std.specs.Prelude.{Bool, true, false, not, ◌&&◌, ◌||◌, List, [], ◌∷◌, ◌++◌, ℕ, zero, suc, ◌+◌, ◌-◌, ◌*◌, ltb, eqb, length, get_or, take, drop, replicate}
 use Rattle.lists.specs.Lists.{every, front}
+use Rattle.moves.specs.Moves.{all_zero}
 use Rattle.types.specs.Units.{units_in}
 
 abbrev pub Slot : Type 0
@@ -77,10 +78,6 @@ neighbours q (u ∷ v ∷ us) = q u v && neighbours q (v ∷ us)
 unfoldable pub joined : (Slot → Slot → Bool) → ℕ → List ℕ → Bool
 joined q zero s = true
 joined q (suc i) s = q (slot_at i s) (slot_at (suc i) s)
-
-unfoldable pub all_zero : List ℕ → Bool
-all_zero [] = true
-all_zero (w ∷ ws) = eqb w 0 && all_zero ws
 
 -- The slots from n on are zero.
 unfoldable pub is_zero_from : ℕ → List ℕ → Bool

@@ -4,25 +4,23 @@ ghost use Rattle.slots.specs.Slots.{slot_width, opened, cleared, closed, written
 ghost use Rattle.types.specs.Units.{units_in};
 ghost use Rattle.slots.specs.Runs.{resized};
 
+use crate::slot::SLOT_WIDTH;
+
 // Words of one slice copied into another.
 pub fn copy_words(to: &mut [u32], at: usize, from: &[u32], start: usize, n: usize)
     requires target { at + n ≤ length to.old }
     requires source { start + n ≤ length from.now }
     ensures copied { to.new ≡ take at to.old ++ (take n (drop start from.now) ++ drop (at + n) to.old) }
 {
-    let mut j = 0;
-    while j < n {
-        to[at + j] = from[start + j];
-        j += 1;
-    }
+    to[at..at + n].copy_from_slice(&from[start..start + n]);
 }
 
 // Slot i replaced.
-pub fn write_slot(s: &mut [u32], i: usize, u: &[u32; 32])
+pub fn write_slot(s: &mut [u32], i: usize, u: &[u32; SLOT_WIDTH])
     requires inside { i < units_in (length s.old) }
     ensures written { s.new ≡ written i u.now s.old }
 {
-    copy_words(s, 32 * i, u, 0, 32);
+    copy_words(s, SLOT_WIDTH * i, u, 0, SLOT_WIDTH);
 }
 
 // Word j of slot i replaced.
@@ -31,34 +29,16 @@ pub fn set_word(s: &mut [u32], i: usize, j: usize, w: u32)
     requires within { j < slot_width }
     ensures set { s.new ≡ set s.old (slot_width * i + j) w }
 {
-    s[32 * i + j] = w;
+    s[SLOT_WIDTH * i + j] = w;
 }
 
-// Slots from i on, of n in use, moved up by c. Words are moved from the top down, so that none is overwritten before it is read.
+// Slots from i on, of n in use, moved up by c.
 pub fn open_slots(s: &mut [u32], i: usize, n: usize, c: usize)
     requires order { i ≤ n }
     requires room { n + c ≤ units_in (length s.old) }
     ensures opened { s.new ≡ opened c i n s.old }
 {
-    let low = 32 * i;
-    let gap = 32 * c;
-    let mut k = 32 * n;
-    while low < k {
-        k -= 1;
-        s[k + gap] = s[k];
-    }
-}
-
-// The n words from index `at + gap` on moved down to `at`.
-fn move_down(s: &mut [u32], at: usize, gap: usize, n: usize)
-    requires inside { at + gap + n ≤ length s.old }
-    ensures moved { s.new ≡ take at s.old ++ (take n (drop (at + gap) s.old) ++ drop (at + n) s.old) }
-{
-    let mut j = 0;
-    while j < n {
-        s[at + j] = s[at + gap + j];
-        j += 1;
-    }
+    s.copy_within(SLOT_WIDTH * i..SLOT_WIDTH * n, SLOT_WIDTH * (i + c));
 }
 
 // c slots from i on cleared.
@@ -66,13 +46,7 @@ pub fn clear_slots(s: &mut [u32], i: usize, c: usize)
     requires inside { i + c ≤ units_in (length s.old) }
     ensures cleared { s.new ≡ cleared c i s.old }
 {
-    let at = 32 * i;
-    let n = 32 * c;
-    let mut j = 0;
-    while j < n {
-        s[at + j] = 0;
-        j += 1;
-    }
+    s[SLOT_WIDTH * i..SLOT_WIDTH * (i + c)].fill(0);
 }
 
 // Slots from i + c on, of n in use, moved down by c, and the last c of them cleared.
@@ -82,7 +56,7 @@ pub fn close_slots(s: &mut [u32], i: usize, n: usize, c: usize)
     ensures closed { s.new ≡ closed c i n s.old }
 {
     let left = n - c;
-    move_down(s, 32 * i, 32 * c, 32 * (left - i));
+    s.copy_within(SLOT_WIDTH * (i + c)..SLOT_WIDTH * n, SLOT_WIDTH * i);
     clear_slots(s, left, c);
 }
 

@@ -1,5 +1,5 @@
 // Slots of 32 words in a lent store: find, move, write and scan.
-#![tactic(auto)]
+#![tactic(auto, unfolding(types::specs::Units::units_in))]
 
 pub mod edit;
 pub mod scan;

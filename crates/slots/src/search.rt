@@ -1,50 +1,53 @@
 // Finding slots by binary search: a slot that is not in use counts as after everything.
-ghost use Rattle.std.specs.Prelude.{◌≡◌, true, [], ◌∷◌, ◌≤◌, ◌<◌, length};
+ghost use Rattle.std.specs.Prelude.{◌≡◌, true, false, ◌-◌, ◌≤◌, ◌<◌, ℕ, length};
 ghost use Rattle.slots.specs.Slots.{held, packed, place_of};
+ghost use Rattle.slots.specs.Place.{words_of};
 ghost use Rattle.slots.specs.Found.{found_at};
 
-use crate::slot::{slot_count, stands_at, stands_before, word};
+use crate::slot::{Place, is_used, stands_at, stands_before};
+use types::units::units;
 
-// How many slots in use stand before a place: the index of the slot at that place, or where it is to be inserted.
-pub fn lower_bound(s: &[u32], a: u32, b: u32, c: u32, d: u32) -> usize
-    requires packed { packed s.now ≡ true }
-    ensures place { result ≡ place_of (a ∷ b ∷ c ∷ d ∷ []) (held s.now) }
-    ensures within { result ≤ length (held s.now) }
+// The first index below n that fails a test, or n, where all that fail stand after all that pass.
+fn partition_point<F: Fn(usize) -> bool>(n: usize, passes: F) -> usize
+    requires callable { (i : ℕ) → i < n → F.pre passes i }
+    ensures within { result ≤ n }
+    ensures last { 0 < result → F.post passes (result - 1) true }
+    ensures first { result < n → F.post passes result false }
 {
-    let mut lo = 0;
-    let mut hi = slot_count(s);
-    while lo < hi {
-        let mid = lo + (hi - lo) / 2;
-        if stands_before(s, mid, a, b, c, d) {
-            lo = mid + 1;
+    let mut low = 0;
+    let mut high = n;
+    while low < high {
+        let middle = low + (high - low) / 2;
+        if passes(middle) {
+            low = middle + 1;
         } else {
-            hi = mid;
+            high = middle;
         }
     }
-    lo
+    low
 }
 
-// Where a slot stands: its index, or where it would be inserted.
-#[derive(Clone, Copy)]
-pub enum Found {
-    There(usize),
-    Absent(usize),
-}
-
-// Where a slot stands that is looked for by its first four words. The first of them is not 0, as no free slot is to be found.
-pub fn find_slot(s: &[u32], a: u32, b: u32, c: u32, d: u32) -> Found
+// How many slots in use stand before a place: the index of the slot at that place, or where it is to be inserted.
+pub fn lower_bound(s: &[u32], at: Place) -> usize
     requires packed { packed s.now ≡ true }
-    requires in_use { 0 < a }
-    ensures found { result ≡ found_at (a ∷ b ∷ c ∷ d ∷ []) (held s.now) }
+    ensures place { result ≡ place_of (words_of «at») (held s.now) }
+    ensures within { result ≤ length (held s.now) }
 {
-    let i = lower_bound(s, a, b, c, d);
-    if slot_count(s) <= i {
-        return Found::Absent(i);
+    partition_point(units(s), |i| stands_before(s, i, at))
+}
+
+// Where a slot stands that is looked for by its place, or where it would be inserted. The first word is not 0, as no free slot is to be found.
+pub fn find_slot(s: &[u32], at: Place) -> Result<usize, usize>
+    requires packed { packed s.now ≡ true }
+    requires in_use { 0 < «at».kind }
+    ensures found { result ≡ found_at (words_of «at») (held s.now) }
+{
+    let i = lower_bound(s, at);
+    if i < units(s) && stands_at(s, i, at) {
+        Ok(i)
+    } else {
+        Err(i)
     }
-    if stands_at(s, i, a, b, c, d) {
-        return Found::There(i);
-    }
-    Found::Absent(i)
 }
 
 // How many slots are in use.
@@ -52,15 +55,5 @@ pub fn used(s: &[u32]) -> usize
     requires packed { packed s.now ≡ true }
     ensures used { result ≡ length (held s.now) }
 {
-    let mut low = 0;
-    let mut free = slot_count(s);
-    while low < free {
-        let mid = low + (free - low) / 2;
-        if word(s, mid, 0) != 0 {
-            low = mid + 1;
-        } else {
-            free = mid;
-        }
-    }
-    low
+    partition_point(units(s), |i| is_used(s, i))
 }

@@ -17,7 +17,7 @@ use Rattle.types.proofs.ValueLaws.{read_words}
 use Rattle.request.specs.Set.{Member, members_of}
 use Rattle.slots.specs.Slots.{slot_width}
 use Rattle.types.specs.Units.{units_in}
-use Rattle.slots.specs.declared.search.Found.TheVariants.{There, Absent}
+use Rattle.std.proofs.Common.{Ok, Err}
 use Rattle.slots.proofs.StoreEncoding.{held_fits}
 use Rattle.model.specs.Rows.{find}
 use Rattle.model.specs.Group.{member_value, members_in, agrees, all_agree}
@@ -36,11 +36,11 @@ module _ (v w : List ℕ) where
   agrees_raw b e t r f = rw (sym e ∙ t) f
 
 -- The value of a tag that is looked for in the base.
-pub tag_absent : (s : List ℕ) (k tag i : ℕ) (v : List ℕ) → member_found k 0 tag (groups_in s) ≡ Absent i → false ≡ agrees v (member_value tag (members_in (find k 0 (groups_in s).updates)))
+pub tag_absent : (s : List ℕ) (k tag i : ℕ) (v : List ℕ) → member_found k 0 tag (groups_in s) ≡ Err i → false ≡ agrees v (member_value tag (members_in (find k 0 (groups_in s).updates)))
 unfolding agrees
 tag_absent s k tag i v e = rw (member_none s k 0 tag i e).0
 
-module _ (s : List ℕ) (valid : group_valid s ≡ true) (k tag i : ℕ) (e : member_found k 0 tag (groups_in s) ≡ There i) where
+module _ (s : List ℕ) (valid : group_valid s ≡ true) (k tag i : ℕ) (e : member_found k 0 tag (groups_in s) ≡ Ok i) where
   there : MemberAt k 0 tag i s
   there = member_at s valid k 0 i tag e
 

@@ -24,8 +24,8 @@ use Rattle.number.specs.Words.{AreWords}
 use Rattle.request.specs.Set.{Member}
 use Rattle.slots.specs.Slots.{Slot, slot_width, slot_at, encode, is_whole, written, padded}
 use Rattle.types.specs.Units.{units_in}
-use Rattle.slots.specs.declared.search.Found.{Found}
-use Rattle.slots.specs.declared.search.Found.TheVariants.{There, Absent}
+use Rattle.std.proofs.Common.{Result}
+use Rattle.std.proofs.Common.{Result, Ok, Err}
 use Rattle.slots.proofs.StoreEncoding.{slot_at_encode, length_encode}
 use Rattle.slots.proofs.SlotEdits.{written_encode}
 use Rattle.slots.proofs.StoreWords.{slots_few, slot_inside}
@@ -48,17 +48,17 @@ use Rattle.group_slots.proofs.GroupMembers.{is_higher, own_member, members_split
 use Rattle.group_slots.proofs.GroupStanding.{MemberAt, CommittedAt, member_at, committed_at}
 use Rattle.versioned_group_data.proofs.GroupRulings.{ruled_refused, ruled_done, ruled_kept}
 
-place_in : Found → ℕ
-place_in (There i) = i
-place_in (Absent i) = i
+place_in : Result ℕ ℕ → ℕ
+place_in (Ok i) = i
+place_in (Err i) = i
 
 -- a place that was found is the one that was looked for
-found_place : {A : Type 0} (n i : ℕ) (o : Option A) → found_of n o ≡ There i → n ≡ i
+found_place : {A : Type 0} (n i : ℕ) (o : Option A) → found_of n o ≡ Ok i → n ≡ i
 unfolding found_of place_in
 found_place n i none e = ap place_in e
 found_place n i (some a) e = ap place_in e
 
-found_nothing : {A : Type 0} (n i : ℕ) (o : Option A) → found_of n o ≡ Absent i → o ≡ none
+found_nothing : {A : Type 0} (n i : ℕ) (o : Option A) → found_of n o ≡ Err i → o ≡ none
 unfolding found_of
 found_nothing n i none e = refl
 found_nothing n i (some a) e = absurd (let z : ◌≡◌ {A = ℕ} 0 1 = cc in omega arith)
@@ -174,7 +174,7 @@ module _ (s : List ℕ) (v : group_valid s ≡ true) where
       ap (written i x) (sym (holding_groups s v))
       ∙ (unfold holding in written_encode s (group_slots (groups_in s)) whole_valid slots_few_valid i h x)
 
-  module _ (key tag : ℕ) (new : List ℕ) (seven : length new ≡ value_width) (i : ℕ) (there : member_found key 0 tag (groups_in s) ≡ There i) where
+  module _ (key tag : ℕ) (new : List ℕ) (seven : length new ≡ value_width) (i : ℕ) (there : member_found key 0 tag (groups_in s) ≡ Ok i) where
     at : MemberAt key 0 tag i s
     at = member_at s v key 0 i tag there
 
@@ -263,7 +263,7 @@ module _ (s : List ℕ) (v : group_valid s ≡ true) where
     pub base_length : (m : List ℕ) → m ≡ written i (with_value new (slot_at i s)) s → length m ≡ length s
     base_length m e = ap length (e ∙ base_written) ∙ (unfold holding in length_encode s (group_slots with_base_lem) with_base_whole with_base_few)
 
-    module _ (j : ℕ) (here : committed_found key tag (groups_in s) ≡ There j) where
+    module _ (j : ℕ) (here : committed_found key tag (groups_in s) ≡ Ok j) where
       value_at_lem : CommittedAt key tag j s
       value_at_lem = committed_at s v key tag j here
 
@@ -357,7 +357,7 @@ module _ (s : List ℕ) (v : group_valid s ≡ true) where
           rule : committing (groups_in s) key 0 (update_tagged_base_value key tag new) ≡ accept done_answer (groups_in s)
           rule = unfold committing ruled update_tagged_base_value exchange_in with_group_commits commits edited in rw (at.found, at.valued, is)
 
-      pub exchange_none : (j : ℕ) → b ≡ false → committed_found key tag (groups_in s) ≡ Absent j → Ruled s (committing (groups_in s) key 0 (update_tagged_base_value key tag new)) nothing_to_exchange s
+      pub exchange_none : (j : ℕ) → b ≡ false → committed_found key tag (groups_in s) ≡ Err j → Ruled s (committing (groups_in s) key 0 (update_tagged_base_value key tag new)) nothing_to_exchange s
       exchange_none j f e = ruled_refused s s (committing (groups_in s) key 0 (update_tagged_base_value key tag new)) nothing_to_exchange rule
         where
           is : is_exchanged at.value ≡ false
@@ -369,17 +369,17 @@ module _ (s : List ℕ) (v : group_valid s ≡ true) where
           rule : committing (groups_in s) key 0 (update_tagged_base_value key tag new) ≡ refuse nothing_to_exchange
           rule = unfold committing ruled update_tagged_base_value exchange_in exchange_raw in rw (at.found, at.valued, is, none_there)
 
-  pub exchange_absent : (key tag i : ℕ) (new : List ℕ) → member_found key 0 tag (groups_in s) ≡ Absent i → Ruled s (committing (groups_in s) key 0 (update_tagged_base_value key tag new)) nothing_there s
+  pub exchange_absent : (key tag i : ℕ) (new : List ℕ) → member_found key 0 tag (groups_in s) ≡ Err i → Ruled s (committing (groups_in s) key 0 (update_tagged_base_value key tag new)) nothing_there s
   exchange_absent key tag i new e = ruled_refused s s (committing (groups_in s) key 0 (update_tagged_base_value key tag new)) nothing_there (exchange_refused key tag new (groups_in s) nothing)
     where
       nothing : member_value tag (members_in (find key 0 (groups_in s).updates)) ≡ none
       nothing = unfold member_found in found_nothing (start_of key 0 (groups_in s) + lower_in tag (find key 0 (groups_in s).updates)) i (member_value tag (members_in (find key 0 (groups_in s).updates))) e
 
 -- what the code's searches told: the base's index is 0
-pub base_found : (key tag : ℕ) (g : Groups) (x : ShiftedTxnIndex) (f : Found) (r : Found) → x ≡ shifted_of 0 → f ≡ member_found key (word_of x) tag g → f ≡ r → member_found key 0 tag g ≡ r
+pub base_found : (key tag : ℕ) (g : Groups) (x : ShiftedTxnIndex) (f : Result ℕ ℕ) (r : Result ℕ ℕ) → x ≡ shifted_of 0 → f ≡ member_found key (word_of x) tag g → f ≡ r → member_found key 0 tag g ≡ r
 base_found key tag g x f r e m h = ap (λ (y : ShiftedTxnIndex). member_found key (word_of y) tag g) (sym e) ∙ sym m ∙ h
 
-pub committed_told : (key tag : ℕ) (g : Groups) (f r : Found) → f ≡ committed_found key tag g → f ≡ r → committed_found key tag g ≡ r
+pub committed_told : (key tag : ℕ) (g : Groups) (f r : Result ℕ ℕ) → f ≡ committed_found key tag g → f ≡ r → committed_found key tag g ≡ r
 committed_told key tag g f r m h = sym m ∙ h
 
 -- ---- what the code reads and writes

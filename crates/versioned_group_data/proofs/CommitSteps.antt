@@ -23,8 +23,8 @@ use Rattle.request.specs.Set.{Member, tags_of}
 use Rattle.request.specs.declared.set.Set.{Set}
 use Rattle.slots.specs.Slots.{padded}
 use Rattle.types.specs.Units.{units_in}
-use Rattle.slots.specs.declared.search.Found.{Found}
-use Rattle.slots.specs.declared.search.Found.TheVariants.{There, Absent}
+use Rattle.std.proofs.Common.{Result}
+use Rattle.std.proofs.Common.{Result, Ok, Err}
 use Rattle.model.specs.Rows.{find, put, erase, row_at}
 use Rattle.model.specs.Group.{Committed, is_some}
 use Rattle.model.specs.Fine.{is_word, rising_from, fine_member, fine_members, fine_updates, fine_group}
@@ -44,12 +44,12 @@ use Rattle.group_slots.proofs.GroupStanding.{committed_at, committed_none}
 
 -- ---- the commit rule
 
-module _ (s : List ℕ) (valid : group_valid s ≡ true) (key tag : ℕ) (f : Found) (found : f ≡ committed_found key tag (groups_in s)) (i : ℕ) (v : List ℕ) (c : Bool) (creation : c ≡ is_creation v) where
+module _ (s : List ℕ) (valid : group_valid s ≡ true) (key tag : ℕ) (f : Result ℕ ℕ) (found : f ≡ committed_found key tag (groups_in s)) (i : ℕ) (v : List ℕ) (c : Bool) (creation : c ≡ is_creation v) where
   passes_is : (b : Bool) → is_some (find key tag (groups_in s).committed) ≡ b → passes key (groups_in s).committed (record { tag = tag; value = v }) ≡ cond c (not b) b
   unfolding passes
   passes_is b e = rw (e, ← creation)
 
-  pub passes_there : f ≡ There i → not c ≡ passes key (groups_in s).committed (record { tag = tag; value = v })
+  pub passes_there : f ≡ Ok i → not c ≡ passes key (groups_in s).committed (record { tag = tag; value = v })
   unfolding is_some
   passes_there t = both c ∙ sym (passes_is true (rw (committed_at s valid key tag i (sym found ∙ t)).found))
     where
@@ -57,7 +57,7 @@ module _ (s : List ℕ) (valid : group_valid s ≡ true) (key tag : ℕ) (f : Fo
       both true = refl
       both false = refl
 
-  pub passes_absent : f ≡ Absent i → c ≡ passes key (groups_in s).committed (record { tag = tag; value = v })
+  pub passes_absent : f ≡ Err i → c ≡ passes key (groups_in s).committed (record { tag = tag; value = v })
   unfolding is_some
   passes_absent t = both c ∙ sym (passes_is false (rw (committed_none s key tag i (sym found ∙ t)).0))
     where

@@ -10,8 +10,8 @@ use lib.ListN.{length, length-append}
 use Rattle.slots.specs.Slots.{Slot, encode, held, opened, closed, written}
 use Rattle.types.specs.Units.{units_in}
 use Rattle.slots.specs.Runs.{spliced}
-use Rattle.slots.specs.declared.search.Found.{Found}
-use Rattle.slots.specs.declared.search.Found.TheVariants.{There, Absent}
+use Rattle.std.proofs.Common.{Result}
+use Rattle.std.proofs.Common.{Result, Ok, Err}
 use Rattle.slots.proofs.SlotSplices.{spliced_parts, written_one, encode_rewritten, encode_removed, encode_inserted}
 use Rattle.model.specs.Rows.{find, put, erase, rank, row_at}
 use Rattle.model.specs.Model.{updates_held}
@@ -24,7 +24,7 @@ use Rattle.group_slots.proofs.GroupSplits.{own_value_lem, lower_values_lem, uppe
 use Rattle.group_slots.proofs.GroupStanding.{committed_at, committed_none}
 use Rattle.versioned_group_data.proofs.GroupRulings.{fits_held}
 
-there_place : {A : Type 0} (i j : ℕ) (o : Option A) → There i ≡ found_of j o → i ≡ j
+there_place : {A : Type 0} (i j : ℕ) (o : Option A) → Ok i ≡ found_of j o → i ≡ j
 unfolding found_of
 there_place i j none e = absurd (let z : ◌≡◌ {A = ℕ} 0 1 = cc in omega arith)
 there_place i j (some a) e = cc
@@ -70,8 +70,8 @@ module _ (s : List ℕ) (v : group_valid s ≡ true) (key tag : ℕ) where
   unfolding own_value_lem
   some_own w e = rw e
 
-  module _ (f : Found) (found : f ≡ committed_found key tag (groups_in s)) (i : ℕ) where
-    module _ (t : f ≡ There i) where
+  module _ (f : Result ℕ ℕ) (found : f ≡ committed_found key tag (groups_in s)) (i : ℕ) where
+    module _ (t : f ≡ Ok i) where
       there_here : i ≡ length (lower_values_lem key tag (groups_in s))
       unfolding committed_found
       there_here =
@@ -111,7 +111,7 @@ module _ (s : List ℕ) (v : group_valid s ≡ true) (key tag : ℕ) where
             ∙ ap (encode s) (spliced_values i 1 [] there_here there_own)
             ∙ erase_holding
 
-    module _ (t : f ≡ Absent i) where
+    module _ (t : f ≡ Err i) where
       absent_here : i ≡ length (lower_values_lem key tag (groups_in s))
       absent_here = (committed_none s key tag i (sym found ∙ t)).1 ∙ sym (length_lower_values key tag (groups_in s))
 

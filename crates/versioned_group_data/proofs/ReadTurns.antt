@@ -18,17 +18,16 @@ use Rattle.types.specs.Response.{most_tags}
 use Rattle.types.specs.Index.{shifted_of, word_of, index_of}
 use Rattle.types.specs.Value.{value_width, value_at, is_deletion, byte_length, bytes_len}
 use Rattle.types.specs.ValueWithLayout.{words_of, bytes_len_of, value_from}
-use Rattle.types.specs.declared.index.IndexOrStorage.{IndexOrStorage}
-use Rattle.types.specs.declared.index.IndexOrStorage.TheVariants.{Index, StorageVersion}
 use Rattle.types.specs.declared.index.ShiftedTxnIndex.{ShiftedTxnIndex}
 use Rattle.types.specs.declared.value.ValueWithLayout.{ValueWithLayout}
-use Rattle.types.specs.declared.value.BytesLen.{BytesLen}
-use Rattle.types.specs.declared.value.BytesLen.TheVariants.{Length, NoBytes}
+use Rattle.std.proofs.Common.{Some, None}
+use Rattle.std.proofs.Common.{Option as Maybe}
+use Rattle.std.specs.Result.{result_unwrap_or}
 use Rattle.types.specs.declared.output.MVGroupOutput.{MVGroupOutput}
 use Rattle.types.specs.declared.output.MVGroupOutput.TheVariants.{Versioned, Size, Uninitialized, TagNotFound, Dependency}
 use Rattle.number.specs.Words.{AreWords}
 use Rattle.types.proofs.ValueLaws.{read_words}
-use Rattle.types.proofs.AnswersTold.{index_told, storage_told, length_told, no_bytes_told}
+use Rattle.types.proofs.AnswersTold.{length_told, no_bytes_told}
 use Rattle.slots.specs.Slots.{Slot, slot_width, slot_at, held}
 use Rattle.types.specs.Units.{units_in}
 use Rattle.slots.proofs.StoreEncoding.{held_fits, held_slots}
@@ -44,18 +43,10 @@ use Rattle.versioned_group_data.proofs.ReadTallies.{item_tag, item_value, bounde
 
 -- ---- a transaction to wait for
 
-module _ (at : ShiftedTxnIndex) (r : IndexOrStorage) (e : r ≡ index_of (word_of at)) where
-  pub waits_index : (index : ℕ) → r ≡ Index index → Dependency index ≡ Dependency (word_of at - 1)
-  waits_index index t =
-      let w : word_of at ≡ suc index = index_told (word_of at) index (sym e ∙ t) in
-      let n : index ≡ word_of at - 1 = omega arith in
-      ap Dependency n
-
-  pub waits_storage : r ≡ StorageVersion → Dependency 0 ≡ Dependency (word_of at - 1)
-  waits_storage t =
-      let w : word_of at ≡ 0 = storage_told (word_of at) (sym e ∙ t) in
-      let n : 0 ≡ word_of at - 1 = omega arith in
-      ap Dependency n
+pub waits_from : (w : ℕ) → result_unwrap_or (index_of w) 0 ≡ w - 1
+unfolding index_of
+waits_from zero = refl
+waits_from (suc index) = omega arith
 
 pub with_base_false : (based : Bool) (place : ℕ) → based ≡ false → eqb place 0 ≡ (based || eqb place 0)
 with_base_false based place e = rw e
@@ -310,7 +301,7 @@ bytes_bound v n e h = go (is_deletion v) e
     go true f = absurd (let z : ◌≡◌ {A = ℕ} 0 1 = cc in omega arith)
     go false f = let z : byte_length v ≡ n = cc in omega arith
 
-pub length_bound : (v : List ℕ) (l : BytesLen) → l ≡ bytes_len_of v → byte_length v ≤ 1048576 → (n : ℕ) → l ≡ Length n → n ≤ 1048576
+pub length_bound : (v : List ℕ) (l : Maybe ℕ) → l ≡ bytes_len_of v → byte_length v ≤ 1048576 → (n : ℕ) → l ≡ Some n → n ≤ 1048576
 length_bound v l e h n f = bytes_bound v n (length_told v n (sym e ∙ f)) h
 
 pub added_is : (t : Counts) (members bytes : ℕ) →
@@ -344,12 +335,12 @@ module _ (t : Counts) where
   unfolding tally_of waiting
   waiting_same tag place h = rw (le-ltb tag t.lowest h)
 
-  module _ (v : List ℕ) (l : BytesLen) (e : l ≡ bytes_len_of v) where
-    pub counting_none : l ≡ NoBytes → (after : Counts) → tally_of after ≡ added 0 0 (tally_of t) → tally_of after ≡ counting (bytes_len v) (tally_of t)
+  module _ (v : List ℕ) (l : Maybe ℕ) (e : l ≡ bytes_len_of v) where
+    pub counting_none : l ≡ None → (after : Counts) → tally_of after ≡ added 0 0 (tally_of t) → tally_of after ≡ counting (bytes_len v) (tally_of t)
     unfolding counting
     counting_none f after g = g ∙ rw (no_bytes_told v (sym e ∙ f)) (added_none (tally_of t))
 
-    pub counting_some : (n : ℕ) → l ≡ Length n → (after : Counts) → tally_of after ≡ added 1 (n + 1) (tally_of t) → tally_of after ≡ counting (bytes_len v) (tally_of t)
+    pub counting_some : (n : ℕ) → l ≡ Some n → (after : Counts) → tally_of after ≡ added 1 (n + 1) (tally_of t) → tally_of after ≡ counting (bytes_len v) (tally_of t)
     counting_some n f after g = g ∙ added_one n (tally_of t) ∙ ap (λ (o : Option ℕ). counting o (tally_of t)) (sym (length_told v n (sym e ∙ f)))
 
   pub size_unbased : (based : Bool) → based ≡ false → Uninitialized ≡ cond based (size_output (size_of (tally_of t))) Uninitialized

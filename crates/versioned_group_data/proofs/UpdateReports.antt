@@ -11,8 +11,8 @@ use borrow.Author.Tests.{eq-eqb, ne_eqb}
 use Rattle.types.specs.Value.{value_width}
 use Rattle.request.specs.Set.{Member, tags_of, members_of}
 use Rattle.request.specs.declared.set.Set.{Set}
-use Rattle.slots.specs.declared.search.Found.{Found}
-use Rattle.slots.specs.declared.search.Found.TheVariants.{There, Absent}
+use Rattle.std.proofs.Common.{Result}
+use Rattle.std.proofs.Common.{Result, Ok, Err}
 use Rattle.model.specs.Rows.{find}
 use Rattle.model.specs.Group.{is_some, member_value, members_in, outside, write_group}
 use Rattle.model.specs.Model.{ruled}
@@ -39,18 +39,18 @@ pub outside_end : (ts : List ℕ) (es : List Member) (b : Bool) → ts ≡ [] �
 unfolding outside members_of
 outside_end ts es b e h = ap (λ (l : List ℕ). outside (members_of l []) es) (sym e) ∙ h
 
-there_some : {A : Type 0} (n i : ℕ) (o : Option A) → found_of n o ≡ There i → is_some o ≡ true
+there_some : {A : Type 0} (n i : ℕ) (o : Option A) → found_of n o ≡ Ok i → is_some o ≡ true
 unfolding found_of is_some
 there_some n i none e = absurd (let z : ◌≡◌ {A = ℕ} 0 1 = cc in omega arith)
 there_some n i (some a) e = refl
 
-absent_none : {A : Type 0} (n i : ℕ) (o : Option A) → found_of n o ≡ Absent i → is_some o ≡ false
+absent_none : {A : Type 0} (n i : ℕ) (o : Option A) → found_of n o ≡ Err i → is_some o ≡ false
 unfolding found_of is_some
 absent_none n i none e = refl
 absent_none n i (some a) e = absurd (let z : ◌≡◌ {A = ℕ} 0 1 = cc in omega arith)
 
 -- A tag that is looked for among the members of the update there.
-module _ (s : List ℕ) (k p : ℕ) (ts ts' : List ℕ) (f : ℕ) (cons : ts ≡ f ∷ ts') (r : Found) (found : r ≡ member_found k p f (groups_in s)) (i : ℕ) (b : Bool)
+module _ (s : List ℕ) (k p : ℕ) (ts ts' : List ℕ) (f : ℕ) (cons : ts ≡ f ∷ ts') (r : Result ℕ ℕ) (found : r ≡ member_found k p f (groups_in s)) (i : ℕ) (b : Bool)
     (rest : outside (members_of ts []) (members_in (find k p (groups_in s).updates)) ≡ b) where
   abbrev es : List Member
   es = members_in (find k p (groups_in s).updates)
@@ -58,13 +58,13 @@ module _ (s : List ℕ) (k p : ℕ) (ts ts' : List ℕ) (f : ℕ) (cons : ts ≡
   split : (not (is_some (member_value f es)) || outside (members_of ts' []) es) ≡ b
   split = sym (outside_cons f ts' es) ∙ ap (λ (l : List ℕ). outside (members_of l []) es) (sym cons) ∙ rest
 
-  pub outside_there : r ≡ There i → outside (members_of ts' []) es ≡ b
+  pub outside_there : r ≡ Ok i → outside (members_of ts' []) es ≡ b
   unfolding member_found
   outside_there e =
       let h : is_some (member_value f es) ≡ true = there_some (start_of k p (groups_in s) + lower_in f (find k p (groups_in s).updates)) i (member_value f es) (sym found ∙ e) in
       ap (λ (c : Bool). not c || outside (members_of ts' []) es) (sym h) ∙ split
 
-  pub outside_absent : r ≡ Absent i → true ≡ b
+  pub outside_absent : r ≡ Err i → true ≡ b
   unfolding member_found
   outside_absent e =
       let h : is_some (member_value f es) ≡ false = absent_none (start_of k p (groups_in s) + lower_in f (find k p (groups_in s).updates)) i (member_value f es) (sym found ∙ e) in

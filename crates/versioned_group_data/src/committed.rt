@@ -8,9 +8,10 @@ ghost use Rattle.versioned_group_data.specs.Ruled.{answer_in};
 
 use crate::collect::{collect_tags, collect_values, set_words};
 use group_slots::layout;
+use group_slots::layout::committed_place;
 use request::set::Set;
 use slots::search::lower_bound;
-use types::response::{COMMITTED, SET_WIDTH, head};
+use types::response::{AnswerKind, SET_WIDTH, head};
 use types::value::VALUE_WIDTH;
 
 // The first words of an answer of kind 9: the head, with the count of words for n values, and the set.
@@ -19,7 +20,7 @@ fn write_set(out: &mut [u32], n: usize, set: Set)
     requires few { n ≤ most_tags }
     ensures written { out.new ≡ head_of committed_kind (set_width + value_width * n) ∷ set.low ∷ set.high ∷ drop 3 out.old }
 {
-    out[0] = head(COMMITTED, SET_WIDTH + VALUE_WIDTH * n);
+    out[0] = head(AnswerKind::Committed.number(), SET_WIDTH + VALUE_WIDTH * n);
     out[1] = set.low;
     out[2] = set.high;
 }
@@ -30,8 +31,8 @@ pub fn get_last_committed_group(s: &[u32], key: u32, out: &mut [u32])
     requires room { answer_width ≤ length out.old }
     ensures answered { out.new ≡ answer_in (rule.committed_answer key (groups_in s.now).committed) out.old }
 {
-    let lo = lower_bound(s, layout::COMMITTED, key, 0, 0);
-    let hi = lower_bound(s, layout::COMMITTED, key, layout::AFTER_TAGS, 0);
+    let lo = lower_bound(s, committed_place(key, 0));
+    let hi = lower_bound(s, committed_place(key, layout::AFTER_TAGS));
     let n = hi - lo;
     let set = set_words(collect_tags(s, lo, n, layout::PLACE, 0));
     write_set(out, n, set);

@@ -11,7 +11,7 @@ ghost use Rattle.versioned_group_data.specs.Exchange.{with_value};
 use group_slots::find::{find_committed, find_member};
 use group_slots::layout;
 use slots::edit::copy_words;
-use slots::search::Found;
+use slots::slot::SLOT_WIDTH;
 use types::index::ShiftedTxnIndex;
 use types::refusal;
 use types::value::{VALUE_WIDTH, ValueWithLayout};
@@ -21,7 +21,7 @@ fn is_exchanged(s: &[u32], i: usize) -> bool
     requires inside { i < units_in (length s.now) }
     ensures exchanged { result ≡ is_exchanged (value_at (slot_width * i + 7) s.now) }
 {
-    ValueWithLayout::read(s, 32 * i + layout::VALUE).is_exchanged()
+    ValueWithLayout::read(s, SLOT_WIDTH * i + layout::VALUE).is_exchanged()
 }
 
 // The value of slot i replaced by the one at `at` of a request's words.
@@ -30,7 +30,7 @@ fn write_value(s: &mut [u32], i: usize, t: &[u32], at: usize)
     requires inside { at + value_width ≤ length t.now }
     ensures written { s.new ≡ written i (with_value (value_at at t.now) (slot_at i s.old)) s.old }
 {
-    copy_words(s, 32 * i + layout::VALUE, t, at, VALUE_WIDTH);
+    copy_words(s, SLOT_WIDTH * i + layout::VALUE, t, at, VALUE_WIDTH);
 }
 
 // The base and the committed value are exchanged together. 6 stands for the Rust's panic at a base that is not there, 12 for that at a committed
@@ -50,18 +50,18 @@ pub fn update_tagged_base_value_with_layout(
         s.new }
 {
     match find_member(s, key, ShiftedTxnIndex::zero_idx(), tag) {
-        Found::Absent(_) => {
+        Err(_) => {
             return refusal::NOTHING_THERE;
         }
-        Found::There(i) => {
+        Ok(i) => {
             if is_exchanged(s, i) {
                 return 0;
             }
             match find_committed(s, key, tag) {
-                Found::Absent(_) => {
+                Err(_) => {
                     return refusal::NOTHING_TO_EXCHANGE;
                 }
-                Found::There(j) => {
+                Ok(j) => {
                     if is_exchanged(s, j) {
                         return refusal::NOTHING_TO_EXCHANGE;
                     }

@@ -1,26 +1,23 @@
--- `words::all_zero` meets its contract: what is left decides.
+-- A fold over the words tests each of them.
 -- Assumes nothing.
-use native.Mathlib.Omega.{arith}
-use mathlib.Core.Path.{refl}
-use Rattle.moves.proofs.Zeros.{zero_kept, zero_lost, zero_done}
+use Rattle.std.proofs.Common.{rules, ◌≡◌, ℕ, Bool, true, false, ◌&&◌, eqb, List, [], ◌∷◌, refl, ◌∙◌}
+use Rattle.std.specs.List.{fold}
+use Rattle.std.proofs.lemmas.Iterator.{YieldsList-from_slice}
+use Rattle.std.proofs.lemmas.Iterator.Consumers.{fold_from_yields_List}
+use Rattle.moves.specs.Moves.{all_zero}
 use Rattle.moves.proofs.all_zero.Goals as goal
-use Rattle.moves.proofs.all_zero.Goals.{then-s-i-ne0, else-s-i-ne0}
 
-pub loop-i-init : goal.loop-i-init
-loop-i-init c = (omega arith, omega arith, refl)
-
-pub loop-i-preserved : goal.loop-i-preserved
-loop-i-preserved c =
-    let s = c.args.s.now in
-    let to = c.args.to in (
-      omega arith,
-      omega arith,
-      elim c.if-s-i-ne0.branch [
-        | then-s-i-ne0 w ↦ zero_lost s c.loop-i.i to (omega arith) (omega arith) c.loop-i.ok _ _ c.loop-i.invariant.2 w.if-s-i-ne0.true w.ok-is
-        | else-s-i-ne0 w ↦ zero_kept s c.loop-i.i to (omega arith) (omega arith) c.loop-i.ok _ _ c.loop-i.invariant.2 w.if-s-i-ne0.false w.ok-is
-      ],
-    )
+fold-zero : (ok : Bool) (ws : List ℕ) → fold (λ a w. a && eqb w 0) ok ws ≡ (ok && all_zero ws)
+unfolding all_zero
+fold-zero true [] = refl
+fold-zero false [] = refl
+fold-zero true (w ∷ ws) = fold-zero (eqb w 0) ws
+fold-zero false (w ∷ ws) = fold-zero false ws
 
 pub returns : goal.returns
 returns c =
-    record { zero = zero_done c.args.s.now c.loop-i.i c.args.to _ _ c.loop-i.invariant.2 c.loop-i-test.false }
+    record {
+      zero =
+          fold_from_yields_List _ (λ a w. a && eqb w 0) true _ c.fold.ensures.ran (YieldsList-from_slice _ c.iter.ensures.rest) (λ a x b q k. search rules)
+          ∙ fold-zero true _;
+    }

@@ -8,8 +8,8 @@ use Rattle.group_slots.proofs.find.find_committed.Goals as goal
 
 pub find_slot-requires : goal.find_slot-requires
 find_slot-requires c =
-    record { packed = packed_valid _ c.requires.valid; in_use = omega arith }
+    record { packed = packed_valid _ c.requires.valid; in_use = rw c.committed_place.ensures.place (omega arith) }
 
 pub returns : goal.returns
 returns c =
-    record { found = c.find_slot.ensures.found ∙ committed_found_valid _ c.requires.valid _ _ }
+    record { found = (rw c.committed_place.ensures.place at c.find_slot.ensures.found) ∙ committed_found_valid _ c.requires.valid _ _ }

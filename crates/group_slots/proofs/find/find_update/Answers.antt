@@ -1,5 +1,6 @@
 -- `group_slots::find::find_update` meets its contract.
 -- Assumes nothing.
+use mathlib.Core.Path.{refl}
 use Rattle.group_slots.proofs.GroupHolding.{packed_valid}
 use Rattle.group_slots.proofs.GroupPlaces.{run_rises, run_is}
 use Rattle.group_slots.proofs.find.find_update.Goals as goal
@@ -14,12 +15,12 @@ lower_bound-end-requires c =
 
 pub overflow_sub-result : goal.overflow_sub-result
 overflow_sub-result c =
-    run_rises _ c.requires.valid _ _ _ c.word-place.ensures.stored _ _ c.lower_bound-start.ensures.place
-    c.lower_bound-end.ensures.place
+    run_rises _ c.requires.valid _ _ _ refl _ _ (rw c.update_place.ensures.place at c.lower_bound-start.ensures.place)
+    (rw c.update_place-2.ensures.place at c.lower_bound-end.ensures.place)
 
 pub returns : goal.returns
 returns c =
     record {
-      run = run_is _ c.requires.valid _ _ _ c.word-place.ensures.stored _ _ c.lower_bound-start.ensures.place
-          c.lower_bound-end.ensures.place;
+      run = run_is _ c.requires.valid _ _ _ refl _ _ (rw c.update_place.ensures.place at c.lower_bound-start.ensures.place)
+          (rw c.update_place-2.ensures.place at c.lower_bound-end.ensures.place);
     }

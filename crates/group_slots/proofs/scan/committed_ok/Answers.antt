@@ -2,7 +2,7 @@
 -- Assumes nothing.
 use native.Mathlib.Omega.{arith}
 use Rattle.types.proofs.ValueLaws.{read_words}
-use Rattle.slots.proofs.StoreWords.{slot_inside, part_inside}
+use Rattle.slots.proofs.StoreWords.{part_inside}
 use Rattle.group_slots.proofs.ScanExits.{committed_tag, committed_head, committed_value, committed_deletion, committed_rest}
 use Rattle.group_slots.proofs.scan.committed_ok.Goals as goal
 
@@ -10,31 +10,9 @@ pub returns-then-word-ge-AFTER_TAGS : goal.returns-then-word-ge-AFTER_TAGS
 returns-then-word-ge-AFTER_TAGS c =
     record { committed = committed_tag _ _ _ c.word.ensures.word c.if-word-ge-AFTER_TAGS.true }
 
-pub overflow_mul-i : goal.overflow_mul-i
-overflow_mul-i c = omega (arith, slot_inside _ _ c.requires.inside)
-
-pub overflow_add-i : goal.overflow_add-i
-overflow_add-i c = omega (arith, slot_inside _ _ c.requires.inside)
-
-pub overflow_mul-i-2 : goal.overflow_mul-i-2
-overflow_mul-i-2 c = omega (arith, slot_inside _ _ c.requires.inside)
-
-pub overflow_add-i-2 : goal.overflow_add-i-2
-overflow_add-i-2 c = omega (arith, slot_inside _ _ c.requires.inside)
-
-pub all_zero-requires : goal.all_zero-requires
-all_zero-requires c =
-    record { order = omega arith; inside = omega (arith, slot_inside _ _ c.requires.inside) }
-
 pub returns-then-not-all_zero : goal.returns-then-not-all_zero
 returns-then-not-all_zero c =
     record { committed = committed_head _ _ _ c.word.ensures.word c.if-word-ge-AFTER_TAGS.false _ c.all_zero.ensures.zero c.if-not-all_zero.true-raw }
-
-pub overflow_mul-i-3 : goal.overflow_mul-i-3
-overflow_mul-i-3 c = omega (arith, slot_inside _ _ c.requires.inside)
-
-pub overflow_add-i-3 : goal.overflow_add-i-3
-overflow_add-i-3 c = omega (arith, slot_inside _ _ c.requires.inside)
 
 pub read-v-requires : goal.read-v-requires
 read-v-requires c =

@@ -3,10 +3,10 @@
 use Rattle.group_slots.proofs.ScanExits.{first_none, first_there}
 use Rattle.group_slots.proofs.scan.first_ok.Goals as goal
 
-pub returns-then-slot_count-eq0 : goal.returns-then-slot_count-eq0
-returns-then-slot_count-eq0 c =
-    record { first = first_none _ _ c.slot_count.ensures.slots c.if-slot_count-eq0.true }
+pub returns-then-units-eq0 : goal.returns-then-units-eq0
+returns-then-units-eq0 c =
+    record { first = first_none _ _ c.units.ensures.units c.if-units-eq0.true }
 
 pub returns : goal.returns
 returns c =
-    record { first = first_there _ _ c.slot_count.ensures.slots c.if-slot_count-eq0.false _ c.is_member.ensures.member }
+    record { first = first_there _ _ c.units.ensures.units c.if-units-eq0.false _ c.is_member.ensures.member }

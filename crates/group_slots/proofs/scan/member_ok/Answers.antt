@@ -2,15 +2,9 @@
 -- Assumes nothing.
 use native.Mathlib.Omega.{arith}
 use Rattle.types.proofs.ValueLaws.{read_words}
-use Rattle.slots.proofs.StoreWords.{slot_inside, part_inside}
+use Rattle.slots.proofs.StoreWords.{part_inside}
 use Rattle.group_slots.proofs.ScanExits.{member_value_lem, member_place, member_rest}
 use Rattle.group_slots.proofs.scan.member_ok.Goals as goal
-
-pub overflow_mul-i : goal.overflow_mul-i
-overflow_mul-i c = omega (arith, slot_inside _ _ c.requires.inside)
-
-pub overflow_add-i : goal.overflow_add-i
-overflow_add-i c = omega (arith, slot_inside _ _ c.requires.inside)
 
 pub read-v-requires : goal.read-v-requires
 read-v-requires c =

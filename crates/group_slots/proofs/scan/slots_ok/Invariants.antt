@@ -2,7 +2,6 @@
 -- Assumes nothing.
 use mathlib.Core.Path.{◌≡◌}
 use mathlib.Core.Bool.{true}
-use Prim.Native.Nat.{◌≤◌, ◌-◌}
 use lib.ListN.{length}
 use Rattle.types.specs.Units.{units_in}
 use Rattle.slots.proofs.SlotScans.{passed}
@@ -10,7 +9,4 @@ use Rattle.group_slots.specs.Tests.{slot_test, follows}
 use Rattle.group_slots.proofs.scan.slots_ok.Given as goal
 
 abbrev pub invariant-loop-i : goal.invariant-loop-i
-invariant-loop-i l = (l.i ≤ l.n) × (l.n ≡ units_in (length l.s)) × (passed slot_test follows l.i l.s ≡ true)
-
-abbrev pub decreases-loop-i : goal.decreases-loop-i
-decreases-loop-i l = l.n - l.i
+invariant-loop-i l = (l.i-end ≡ units_in (length l.s)) × (passed slot_test follows l.i l.s ≡ true)

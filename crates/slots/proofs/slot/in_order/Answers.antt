@@ -1,8 +1,10 @@
--- `slots::slot::in_order` meets its contract.
+-- `slots::slot::in_order` meets its contract: the order that is derived is that of the words.
 -- Assumes nothing.
-use Rattle.slots.proofs.SlotCompares.{slot_before}
+use Rattle.std.proofs.Common.{◌∙◌}
+use Rattle.slots.specs.Slots.{is_before}
+use Rattle.slots.proofs.SlotCompares.{before_four}
 use Rattle.slots.proofs.slot.in_order.Goals as goal
 
 pub returns : goal.returns
-returns c =
-    record { order = slot_before _ _ _ _ _ _ _ _ c.requires.within c.word-a.ensures.word c.word-b.ensures.word c.word-c.ensures.word c.word-d.ensures.word c.words_before.ensures.order }
+unfolding is_before
+returns c = record { order = rw (← c.read-first.ensures.place, ← c.read-second.ensures.place) (c.lt.ensures ∙ before_four _ _ _ _ _ _ _ _) }

@@ -1,12 +1,9 @@
--- `slots::slot::stands_before` meets its contract.
+-- `slots::slot::stands_before` meets its contract: the order that is derived is that of the words.
 -- Assumes nothing.
-use Rattle.slots.proofs.SlotCompares.{unused_before, used_before}
+use Rattle.std.proofs.Common.{◌∙◌, sym}
+use Rattle.slots.proofs.SlotCompares.{before_four}
 use Rattle.slots.proofs.slot.stands_before.Goals as goal
 
-pub returns-then-word-eq0 : goal.returns-then-word-eq0
-returns-then-word-eq0 c =
-    record { order = unused_before _ _ c.requires.inside _ _ c.word.ensures.word c.if-word-eq0.true }
-
-pub returns : goal.returns
-returns c =
-    record { order = used_before _ _ c.requires.inside _ _ c.word.ensures.word c.if-word-eq0.false _ c.words_before.ensures.order }
+pub returns-then-is_used : goal.returns-then-is_used
+returns-then-is_used c =
+    record { order = rw (← c.read.ensures.place, sym c.is_used.ensures.used ∙ c.if-is_used.true) (c.lt.ensures ∙ before_four _ _ _ _ _ _ _ _) }

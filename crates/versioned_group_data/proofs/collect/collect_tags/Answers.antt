@@ -9,27 +9,27 @@ use Rattle.versioned_group_data.proofs.CollectedTurns.{few, from_word, bit_low, 
 use Rattle.versioned_group_data.proofs.collect.collect_tags.Goals as goal
 
 pub loop-k-init : goal.loop-k-init
-loop-k-init c = (omega arith, simp (zero-add, add-zero, sub-zero))
+loop-k-init c = simp (zero-add, add-zero, sub-zero)
 
 pub overflow_add-i : goal.overflow_add-i
-overflow_add-i c = record { fits = omega (arith, few _ _ c.loop-k.k _ c.requires.inside c.loop-k-test.true) }
+overflow_add-i c = record { fits = omega (arith, few _ _ c.loop-k.k _ c.requires.inside (omega arith)) }
 
 pub overflow_sub-bits : goal.overflow_sub-bits
 overflow_sub-bits c =
-    from_word c.args.s.now c.args.i c.args.n c.args.j c.args.less c.requires.within c.loop-k.k _ c.requires.from c.loop-k-test.true c.word.ensures.word
+    from_word c.args.s.now c.args.i c.args.n c.args.j c.args.less c.requires.within c.loop-k.k _ c.requires.from (omega arith) c.word.ensures.word
 
 pub overflow_shl-bits : goal.overflow_shl-bits
 overflow_shl-bits c =
-    bit_low c.args.s.now c.args.i c.args.n c.args.j c.args.less c.loop-k.bits c.loop-k.k _ c.requires.within c.loop-k-test.true c.word.ensures.word c.loop-k.invariant.1 c.requires.fits
+    bit_low c.args.s.now c.args.i c.args.n c.args.j c.args.less c.loop-k.bits c.loop-k.k _ c.requires.within (omega arith) c.word.ensures.word c.loop-k.invariant c.requires.fits
 
 pub overflow_add-bits : goal.overflow_add-bits
 overflow_add-bits c =
-    record { fits = bit_fits c.args.s.now c.args.i c.args.n c.args.j c.args.less c.loop-k.bits c.loop-k.k _ c.requires.within c.loop-k-test.true c.word.ensures.word c.loop-k.invariant.1 c.requires.fits }
+    record { fits = bit_fits c.args.s.now c.args.i c.args.n c.args.j c.args.less c.loop-k.bits c.loop-k.k _ c.requires.within (omega arith) c.word.ensures.word c.loop-k.invariant c.requires.fits }
 
 pub loop-k-preserved : goal.loop-k-preserved
 loop-k-preserved c =
-    (omega arith, bit_again c.args.s.now c.args.i c.args.n c.args.j c.args.less c.loop-k.bits c.loop-k.k _ c.requires.within c.loop-k-test.true c.word.ensures.word c.loop-k.invariant.1 c.requires.fits)
+    bit_again c.args.s.now c.args.i c.args.n c.args.j c.args.less c.loop-k.bits c.loop-k.k _ c.requires.within (omega arith) c.word.ensures.word c.loop-k.invariant c.requires.fits
 
 pub returns : goal.returns
 returns c =
-    record { bits = omega (arith, c.loop-k.invariant.1, tags_none c.args.j c.args.less c.args.n c.loop-k.k (drop (slot_width * (c.args.i + c.loop-k.k)) c.args.s.now) c.loop-k-test.false) }
+    record { bits = omega (arith, c.loop-k.invariant, tags_none c.args.j c.args.less c.args.n c.loop-k.k (drop (slot_width * (c.args.i + c.loop-k.k)) c.args.s.now) (omega arith)) }

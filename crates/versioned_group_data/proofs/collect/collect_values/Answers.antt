@@ -10,19 +10,19 @@ use Rattle.versioned_group_data.proofs.CollectedTurns.{few, values_none, values_
 use Rattle.versioned_group_data.proofs.collect.collect_values.Goals as goal
 
 pub loop-k-init : goal.loop-k-init
-loop-k-init c = (omega arith, values_none _ _ _ _, refl)
+loop-k-init c = (values_none _ _ _ _, refl)
 
 pub overflow_add-i : goal.overflow_add-i
 overflow_add-i c =
-    record { fits = omega (arith, few _ _ c.loop-k.k _ c.requires.inside c.loop-k-test.true) }
+    record { fits = omega (arith, few _ _ c.loop-k.k _ c.requires.inside (omega arith)) }
 
 pub overflow_mul-i : goal.overflow_mul-i
 overflow_mul-i c =
-    record { fits = omega (arith, few _ _ c.loop-k.k _ c.requires.inside c.loop-k-test.true) }
+    record { fits = omega (arith, few _ _ c.loop-k.k _ c.requires.inside (omega arith)) }
 
 pub overflow_add-i-in-loop-k : goal.overflow_add-i-in-loop-k
 overflow_add-i-in-loop-k c =
-    record { fits = omega (arith, few _ _ c.loop-k.k _ c.requires.inside c.loop-k-test.true) }
+    record { fits = omega (arith, few _ _ c.loop-k.k _ c.requires.inside (omega arith)) }
 
 pub copy_words-requires : goal.copy_words-requires
 copy_words-requires c =
@@ -31,8 +31,8 @@ copy_words-requires c =
 
 pub loop-k-preserved : goal.loop-k-preserved
 loop-k-preserved c =
-    (omega arith, c.copy_words.ensures.copied ∙ values_again _ _ _ _ _ _ c.loop-k.invariant.1 (omega arith) (omega arith), search rules)
+    (c.copy_words.ensures.copied ∙ values_again _ _ _ _ _ _ c.loop-k.invariant.0 (omega arith) (omega arith), search rules)
 
 pub returns : goal.returns
 returns c =
-    record { copied = values_all _ _ _ _ _ c.args.n _ c.loop-k.invariant.1 (omega arith) }
+    record { copied = values_all _ _ _ _ _ c.args.n _ c.loop-k.invariant.0 (omega arith) }

@@ -11,13 +11,13 @@ used-n-requires c =
 
 pub close_slots-requires : goal.close_slots-requires
 close_slots-requires c =
-    let h = erase_room _ c.requires.valid _ _ _ c.find_committed.ensures.found _ c.in-There.is _ c.used-n.ensures.used in
+    let h = erase_room _ c.requires.valid _ _ _ c.find_committed.ensures.found _ c.in-Ok.is _ c.used-n.ensures.used in
     record { order = omega (arith, h.0); inside = omega (arith, h.1) }
 
-pub returns-in-There : goal.returns-in-There
-returns-in-There c =
-    record { erased = erase_some _ c.requires.valid _ _ _ c.find_committed.ensures.found _ c.in-There.is _ c.used-n.ensures.used _ c.close_slots.ensures.closed }
+pub returns-in-Ok : goal.returns-in-Ok
+returns-in-Ok c =
+    record { erased = erase_some _ c.requires.valid _ _ _ c.find_committed.ensures.found _ c.in-Ok.is _ c.used-n.ensures.used _ c.close_slots.ensures.closed }
 
-pub returns-in-Absent : goal.returns-in-Absent
-returns-in-Absent c =
-    record { erased = erase_none _ c.requires.valid _ _ _ c.find_committed.ensures.found _ c.in-Absent.is }
+pub returns-in-Err : goal.returns-in-Err
+returns-in-Err c =
+    record { erased = erase_none _ c.requires.valid _ _ _ c.find_committed.ensures.found _ c.in-Err.is }

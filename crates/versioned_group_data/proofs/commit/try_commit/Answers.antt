@@ -32,12 +32,12 @@ overflow_sub-held c =
 
 pub returns-then-lack-ne0 : goal.returns-then-lack-ne0
 returns-then-lack-ne0 c =
-    record { tried = tried_full _ c.requires.valid _ _ c.requires.members c.args.more _ c.growth_of-growth.ensures.growth c.if-not-growth.false _ _ c.slot_count.ensures.slots c.used.ensures.used _ c.lack_of-lack.ensures.lack c.if-lack-ne0.true }
+    record { tried = tried_full _ c.requires.valid _ _ c.requires.members c.args.more _ c.growth_of-growth.ensures.growth c.if-not-growth.false _ _ c.units.ensures.units c.used.ensures.used _ c.lack_of-lack.ensures.lack c.if-lack-ne0.true }
 
 pub commit-requires : goal.commit-requires
 commit-requires c =
-    record { valid = c.requires.valid; inside = c.requires.inside; members = c.requires.members; fits = tried_fits _ c.requires.valid _ _ c.requires.members c.args.more _ c.growth_of-growth.ensures.growth c.if-not-growth.false _ _ c.slot_count.ensures.slots c.used.ensures.used _ c.lack_of-lack.ensures.lack c.if-lack-ne0.false }
+    record { valid = c.requires.valid; inside = c.requires.inside; members = c.requires.members; fits = tried_fits _ c.requires.valid _ _ c.requires.members c.args.more _ c.growth_of-growth.ensures.growth c.if-not-growth.false _ _ c.units.ensures.units c.used.ensures.used _ c.lack_of-lack.ensures.lack c.if-lack-ne0.false }
 
 pub returns : goal.returns
 returns c =
-    record { tried = tried_done _ c.requires.valid _ _ c.requires.members c.args.more _ c.growth_of-growth.ensures.growth c.if-not-growth.false _ _ c.slot_count.ensures.slots c.used.ensures.used _ c.lack_of-lack.ensures.lack c.if-lack-ne0.false _ c.commit.ensures.committed }
+    record { tried = tried_done _ c.requires.valid _ _ c.requires.members c.args.more _ c.growth_of-growth.ensures.growth c.if-not-growth.false _ _ c.units.ensures.units c.used.ensures.used _ c.lack_of-lack.ensures.lack c.if-lack-ne0.false _ c.commit.ensures.committed }

@@ -1,5 +1,6 @@
 -- `versioned_group_data::read::below` meets its contract.
 -- Assumes nothing.
+use mathlib.Core.Path.{refl}
 use Rattle.group_slots.proofs.GroupHolding.{packed_valid}
 use Rattle.versioned_group_data.proofs.ReadStarts.{start_is}
 use Rattle.versioned_group_data.proofs.read.below.Goals as goal
@@ -10,4 +11,4 @@ lower_bound-requires c =
 
 pub returns : goal.returns
 returns c =
-    record { start = start_is _ c.requires.valid _ _ _ c.new-bound.ensures.shifted _ c.word.ensures.stored _ c.lower_bound.ensures.place }
+    record { start = start_is _ c.requires.valid _ _ _ c.new-bound.ensures.shifted _ refl _ (rw c.update_place.ensures.place at c.lower_bound.ensures.place) }

@@ -1,12 +1,10 @@
 -- `versioned_group_data::read::dependency` meets its contract.
 -- Assumes nothing.
-use Rattle.versioned_group_data.proofs.ReadTurns.{waits_index, waits_storage}
+use mathlib.Core.Path.{◌∙◌, ap}
+use Rattle.types.specs.declared.output.MVGroupOutput.TheVariants.{Dependency}
+use Rattle.versioned_group_data.proofs.ReadTurns.{waits_from}
 use Rattle.versioned_group_data.proofs.read.dependency.Goals as goal
 
-pub returns-in-Index : goal.returns-in-Index
-returns-in-Index c =
-    record { waits = waits_index _ _ c.idx.ensures.unshifted _ c.in-Index.is }
-
-pub returns-in-StorageVersion : goal.returns-in-StorageVersion
-returns-in-StorageVersion c =
-    record { waits = waits_storage _ _ c.idx.ensures.unshifted c.in-StorageVersion.is }
+pub returns : goal.returns
+returns c =
+    record { waits = ap Dependency ((rw c.idx.ensures.unshifted at c.unwrap_or.ensures) ∙ waits_from _) }

@@ -13,6 +13,3 @@ invariant-loop-j l =
     Readable l.key l.j (held l.s)
     × (meets_base l.key l.i (held l.s) ≡ (l.based || meets_base l.key l.j (held l.s)))
     × (first_of l.tag (items_at l.key l.i (held l.s)) ≡ first_of l.tag (items_at l.key l.j (held l.s)))
-
-abbrev pub decreases-loop-j : goal.decreases-loop-j
-decreases-loop-j l = l.j

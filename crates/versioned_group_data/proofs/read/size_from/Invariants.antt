@@ -16,6 +16,3 @@ invariant-loop-j l =
     × (meets_base l.key l.i (held l.s) ≡ (l.based || meets_base l.key l.j (held l.s)))
     × (tally (replicate most_tags 0) start (items_at l.key l.i (held l.s)) ≡ tally l.seen (tally_of l.t) (items_at l.key l.j (held l.s)))
     × Bounded l.seen (tally_of l.t)
-
-abbrev pub decreases-loop-j : goal.decreases-loop-j
-decreases-loop-j l = l.j

@@ -8,7 +8,7 @@ use Rattle.versioned_group_data.proofs.UpdateMarking.{marked_none, marked_all, m
 use Rattle.versioned_group_data.proofs.update.mark_slots.Goals as goal
 
 pub loop-j-init : goal.loop-j-init
-loop-j-init c = (omega arith, marked_none _ _, refl)
+loop-j-init c = (marked_none _ _, refl)
 
 pub overflow_add-i : goal.overflow_add-i
 unfolding units_in
@@ -20,11 +20,10 @@ set_word-requires c = search rules
 
 pub loop-j-preserved : goal.loop-j-preserved
 loop-j-preserved c = (
-  omega arith,
-  mark_turn c.args.i c.loop-j.j c.args.s.now (omega arith) _ _ _ c.loop-j.invariant.1 c.loop-j.invariant.2 c.word.ensures.stored c.set_word.ensures.set,
+  mark_turn c.args.i c.loop-j.j c.args.s.now (omega arith) _ _ _ c.loop-j.invariant.0 c.loop-j.invariant.1 c.word.ensures.stored c.set_word.ensures.set,
   search rules,
 )
 
 pub returns : goal.returns
 returns c =
-    record { marked = marked_all _ c.loop-j.j c.args.n _ _ (omega arith) c.loop-j.invariant.1 }
+    record { marked = marked_all _ c.loop-j.j c.args.n _ _ (omega arith) c.loop-j.invariant.0 }

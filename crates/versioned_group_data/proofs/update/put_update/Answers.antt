@@ -24,19 +24,19 @@ overflow_add-n c =
 
 pub returns-then-lack-ne0 : goal.returns-then-lack-ne0
 returns-then-lack-ne0 c =
-    record { recorded = put_refused _ c.requires.valid _ _ _ refl _ c.find_update-run.ensures.run _ c.used-n.ensures.used c.args.incarnation c.args.set c.args.at c.args.t.now _ c.len-m.ensures.counted _ _ c.slot_count.ensures.slots c.lack_of-lack.ensures.lack c.if-lack-ne0.true }
+    record { recorded = put_refused _ c.requires.valid _ _ _ refl _ c.find_update-run.ensures.run _ c.used-n.ensures.used c.args.incarnation c.args.set c.args.at c.args.t.now _ c.len-m.ensures.counted _ _ c.units.ensures.units c.lack_of-lack.ensures.lack c.if-lack-ne0.true }
 
 pub resize-requires : goal.resize-requires
 resize-requires c =
     let room = run_room _ c.requires.valid _ _ _ refl _ c.find_update-run.ensures.run _ c.used-n.ensures.used in
-    record { order = omega (arith, room.0); inside = room.1; room = omega (arith, put_room _ c.requires.valid _ _ _ refl _ c.find_update-run.ensures.run _ c.used-n.ensures.used c.args.incarnation c.args.set c.args.at c.args.t.now _ c.len-m.ensures.counted _ _ c.slot_count.ensures.slots c.lack_of-lack.ensures.lack c.if-lack-ne0.false) }
+    record { order = omega (arith, room.0); inside = room.1; room = omega (arith, put_room _ c.requires.valid _ _ _ refl _ c.find_update-run.ensures.run _ c.used-n.ensures.used c.args.incarnation c.args.set c.args.at c.args.t.now _ c.len-m.ensures.counted _ _ c.units.ensures.units c.lack_of-lack.ensures.lack c.if-lack-ne0.false) }
 
 pub write_update-requires : goal.write_update-requires
 unfolding units_in
 write_update-requires c =
     let room = run_room _ c.requires.valid _ _ _ refl _ c.find_update-run.ensures.run _ c.used-n.ensures.used in
-    record { room = omega (arith, room.0, room.1, put_room _ c.requires.valid _ _ _ refl _ c.find_update-run.ensures.run _ c.used-n.ensures.used c.args.incarnation c.args.set c.args.at c.args.t.now _ c.len-m.ensures.counted _ _ c.slot_count.ensures.slots c.lack_of-lack.ensures.lack c.if-lack-ne0.false, c.len-m.ensures.counted); inside = c.requires.inside }
+    record { room = omega (arith, room.0, room.1, put_room _ c.requires.valid _ _ _ refl _ c.find_update-run.ensures.run _ c.used-n.ensures.used c.args.incarnation c.args.set c.args.at c.args.t.now _ c.len-m.ensures.counted _ _ c.units.ensures.units c.lack_of-lack.ensures.lack c.if-lack-ne0.false, c.len-m.ensures.counted); inside = c.requires.inside }
 
 pub returns : goal.returns
 returns c =
-    record { recorded = put_done _ c.requires.valid _ _ _ refl _ c.find_update-run.ensures.run _ c.used-n.ensures.used c.args.incarnation c.args.set c.args.at c.args.t.now _ c.len-m.ensures.counted _ _ c.slot_count.ensures.slots c.lack_of-lack.ensures.lack c.if-lack-ne0.false _ _ c.resize.ensures.resized c.write_update.ensures.written }
+    record { recorded = put_done _ c.requires.valid _ _ _ refl _ c.find_update-run.ensures.run _ c.used-n.ensures.used c.args.incarnation c.args.set c.args.at c.args.t.now _ c.len-m.ensures.counted _ _ c.units.ensures.units c.lack_of-lack.ensures.lack c.if-lack-ne0.false _ _ c.resize.ensures.resized c.write_update.ensures.written }

@@ -14,9 +14,9 @@ pub find_member-requires : goal.find_member-requires
 find_member-requires c =
     record { valid = c.requires.valid; tag = omega (arith, c.first-in-loop-place.ensures.least, c.first.ensures.least, c.loop-place-test.true) }
 
-pub returns-in-Absent : goal.returns-in-Absent
-returns-in-Absent c =
-    record { outside = outside_absent _ _ _ _ _ _ (first_again _ _ _ _ c.first-in-loop-place.ensures.least c.first.ensures.least c.loop-place-test.true refl) _ c.find_member.ensures.found _ _ c.loop-place.invariant c.in-Absent.is }
+pub returns-in-Err : goal.returns-in-Err
+returns-in-Err c =
+    record { outside = outside_absent _ _ _ _ _ _ (first_again _ _ _ _ c.first-in-loop-place.ensures.least c.first.ensures.least c.loop-place-test.true refl) _ c.find_member.ensures.found _ _ c.loop-place.invariant c.in-Err.is }
 
 pub loop-place-smaller : goal.loop-place-smaller
 loop-place-smaller c =
@@ -24,7 +24,7 @@ loop-place-smaller c =
 
 pub loop-place-preserved : goal.loop-place-preserved
 loop-place-preserved c =
-    outside_there _ _ _ _ _ _ (first_again _ _ _ _ c.first-in-loop-place.ensures.least c.first.ensures.least c.loop-place-test.true c.rest-rest.ensures.others) _ c.find_member.ensures.found _ _ c.loop-place.invariant c.in-There.is
+    outside_there _ _ _ _ _ _ (first_again _ _ _ _ c.first-in-loop-place.ensures.least c.first.ensures.least c.loop-place-test.true c.rest-rest.ensures.others) _ c.find_member.ensures.found _ _ c.loop-place.invariant c.in-Ok.is
 
 pub returns : goal.returns
 returns c =
