@@ -5,10 +5,9 @@ use mathlib.Core.Bool.{true}
 use mathlib.Core.List.{List, [], ◌∷◌, ◌++◌, map}
 use Prim.Native.Nat.{ℕ, zero, suc, ◌+◌, ◌-◌, ◌*◌, ◌≤◌, ◌<◌}
 use native.Mathlib.Omega.{arith}
-use lib.Dec.{ltb}
 use lib.ListN.{length, get_or, take, drop, replicate, length-append, length-map}
 use borrow.Author.Tests.{le-leb}
-use Rattle.probe.specs.Cells.{readings, spot_at, cells, firsts, falls, count_above}
+use Rattle.probe.specs.Cells.{readings, spot_at, spaced, cells, firsts, falls, count_above}
 use Rattle.probe.proofs.Probe.{readings_at, length_readings, count_fits}
 use Rattle.probe.proofs.Readings.{readings_same, readings_append, map_readings}
 use Rattle.pages.specs.Dir.{flat, page, offset, heads}
@@ -57,11 +56,11 @@ unfoldable pub page_spots_lem : ℕ → List ℕ → ℕ → List ℕ
 page_spots_lem base s k = cells (get_or s (base + 97 * k) 0) (base + 97 * k + 1) s
 
 page_spots : (base : ℕ) (s : List ℕ) (k : ℕ) → spots (page_at s (base + 97 * k)) ≡ page_spots_lem base s k
-unfolding page_spots_lem page_at cells spot_of cell_at
+unfolding page_spots_lem page_at spaced spot_of cell_at
 page_spots base s k = map_readings spot_of (get_or s (base + 97 * k) 0) (λ i. cell_at s (base + 97 * k + 1 + 3 * i))
 
 first_spot : (base : ℕ) (s : List ℕ) (k : ℕ) → 0 < get_or s (base + 97 * k) 0 → get_or (page_spots_lem base s k) 0 0 ≡ spot_at s (base + 97 * k + 1 + 3 * 0)
-unfolding page_spots_lem cells
+unfolding page_spots_lem spaced
 first_spot base s k h = readings_at (get_or s (base + 97 * k) 0) (λ i. spot_at s (base + 97 * k + 1 + 3 * i)) 0 0 h
 
 module _ (base r : ℕ) (s : List ℕ) (ok : Sound base r s) where
@@ -82,7 +81,7 @@ module _ (base r : ℕ) (s : List ℕ) (ok : Sound base r s) where
   order = rw (← spots_flat) (spots_fall (cells_in base s) ok.order)
 
   size : (k : ℕ) → length (page_spots_lem base s k) ≡ get_or s (base + 97 * k) 0
-  unfolding page_spots_lem cells
+  unfolding page_spots_lem spaced
   size k = length_readings (get_or s (base + 97 * k) 0) (λ i. spot_at s (base + 97 * k + 1 + 3 * i))
 
   filled : Filled d
@@ -96,7 +95,7 @@ module _ (base r : ℕ) (s : List ℕ) (ok : Sound base r s) where
   tail_order = falls_right (page_spots_lem base s 0) (flat d) order
 
   heads_are : heads d ≡ firsts (get_or s 1 0) (base + 98) s
-  unfolding heads firsts
+  unfolding heads spaced
   heads_are =
       map_readings (λ p. get_or p 0 0) (get_or s 1 0) (λ k. page_spots_lem base s (suc k))
       ∙ readings_same (get_or s 1 0) (λ k. get_or (page_spots_lem base s (suc k)) 0 0) (λ k. spot_at s (base + 98 + 97 * k)) (λ k h. first k h)
@@ -114,7 +113,7 @@ module _ (base r : ℕ) (s : List ℕ) (ok : Sound base r s) where
 
   -- all cells of a page, the unused ones too
   whole : (k : ℕ) → k ≤ get_or s 1 0 → cells r (base + 97 * k + 1) s ≡ page_spots_lem base s k ++ replicate (r - get_or s (base + 97 * k) 0) 0
-  unfolding cells page_spots_lem
+  unfolding spaced page_spots_lem
   whole k h =
       let c : ℕ = get_or s (base + 97 * k) 0 in
       let e : r ≡ c + (r - c) = omega (arith, ok.laid.counts k h) in
@@ -144,7 +143,7 @@ module _ (base r : ℕ) (s : List ℕ) (ok : Sound base r s) where
     e = above ∙ ap (λ (n : ℕ). count_above y (firsts n (base + 98) s)) pages
 
     pub page_in : k ≤ get_or s 1 0
-    unfolding firsts
+    unfolding spaced
     page_in =
         omega (
           arith,
@@ -162,10 +161,10 @@ module _ (base r : ℕ) (s : List ℕ) (ok : Sound base r s) where
     pub page_count : get_or s (base + 97 * k) 0 ≤ r
     page_count = ok.laid.counts k page_in
 
-    pub found : (i c : ℕ) → i ≡ count_above y (cells r (base + 97 * k + 1) s) → c ≡ get_or s (base + 97 * k) 0 →
-        Stands base s k i × ((ltb i c ≡ ltb i (get_or s (base + 97 * k) 0)) × (position_in base s k i ≡ count_above y (spots (cells_in base s))))
+    pub found : (i : ℕ) → i ≡ count_above y (cells r (base + 97 * k + 1) s) →
+        Stands base s k i × (position_in base s k i ≡ count_above y (spots (cells_in base s)))
     unfolding position_in
-    found i n f g =
+    found i f =
         let c : i ≡ count_above y (page_spots_lem base s k) =
         f ∙ ap (count_above y) (whole k page_in) ∙ padded y (page_spots_lem base s k) (r - get_or s (base + 97 * k) 0) in
         let h : count_above y (heads d) ≡ k = ap (count_above y) heads_are ∙ sym e in
@@ -174,11 +173,11 @@ module _ (base r : ℕ) (s : List ℕ) (ok : Sound base r s) where
         rw h at (find_place_lem y (page_spots_lem base s 0) d order filled) in
         let q : count_above y (page k (page_spots_lem base s 0 ∷ d)) ≡ count_above y (page_spots_lem base s k) = ap (count_above y) (page_of k page_in) in
         let v : count_above y (spots (cells_in base s)) ≡ count_above y (flat (page_spots_lem base s 0 ∷ d)) = ap (count_above y) spots_flat in
-        (record { inside = page_in; fits = omega (arith, count_fits y (page_spots_lem base s k), size k) }, (ap (ltb i) g, omega arith))
+        (record { inside = page_in; fits = omega (arith, count_fits y (page_spots_lem base s k), size k) }, omega arith)
 
 -- a search in a page's first m cells asks less, and one in all of them answers
 pub asked_of : (r m a : ℕ) (s : List ℕ) → m ≤ r → (a + 3 * r ≤ length s) × (falls (cells r a s) ≡ true) → (a + 3 * m ≤ length s) × (falls (cells m a s) ≡ true)
-unfolding cells
+unfolding spaced
 asked_of r m a s l h =
     let e : r ≡ m + (r - m) = omega arith in
     let f : falls (readings (λ i. spot_at s (a + 3 * i)) (m + (r - m))) ≡ true = rw (← e) h.1 in

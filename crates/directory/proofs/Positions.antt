@@ -1,7 +1,8 @@
 -- Places among the cells, and positions in the list of them.
 -- Assumes nothing.
 use mathlib.Core.Path.{◌≡◌, refl, sym, ◌∙◌, ap}
-use mathlib.Core.Bool.{Bool, true, false}
+use mathlib.Core.Bool.{Bool, true}
+use Rattle.std.specs.Prelude.{Option, Some, None, IfSome, is_some}
 use mathlib.Core.List.{List, ◌++◌}
 use Prim.Native.Nat.{ℕ, suc, ◌+◌, ◌*◌, ◌≤◌, ◌<◌}
 use native.Mathlib.Omega.{arith}
@@ -13,7 +14,8 @@ use Rattle.probe.proofs.Probe.{readings_at}
 use Rattle.pages.specs.Dir.{flat, page, offset}
 use Rattle.pages.proofs.Edits.{around, offset_next}
 use Rattle.numbers.specs.Numbers.{Cell}
-use Rattle.directory.specs.Cells.{cell_at, page_at, dir_at, cells_in, position_in}
+use Rattle.directory.specs.Cells.{cell_at, page_at, dir_at, cells_in, position_in, position_or_end}
+use Rattle.directory.specs.declared.cells.Place.{Place}
 use Rattle.directory.specs.Directory.{Directory, Stands, There}
 use Rattle.directory.proofs.Frames.{dir_length, dir_page, page_length}
 
@@ -86,47 +88,55 @@ unfolding position_in offset flat
 position_first base s = refl
 
 -- what the first cell at or after a place is
-abbrev pub After : ℕ → List ℕ → ℕ → ℕ → ℕ → Bool → Type 0
-After base s position p i is =
-    Stands base s p i
-    × ((position_in base s p i ≡ position) × ((is ≡ ltb i (get_or s (base + 97 * p) 0)) × (is ≡ ltb position (length (cells_in base s)))))
+abbrev pub After : ℕ → List ℕ → ℕ → Option Place → Type 0
+After base s position r =
+    IfSome r (λ p. There base s p.page p.cell)
+    × ((position_or_end base s r ≡ position) × (is_some r ≡ ltb position (length (cells_in base s))))
 
-module _ (base n : ℕ) (s : List ℕ) (ok : Directory base n s) (p i : ℕ) (stands : Stands base s p i) where
-  pub after_here : (c : ℕ) → c ≡ get_or s (base + 97 * p) 0 → i < c → After base s (position_in base s p i) p i true
+module _ (base n : ℕ) (s : List ℕ) (ok : Directory base n s) (at : Place) (stands : Stands base s at.page at.cell) where
+  pub after_here : (c : ℕ) → c ≡ get_or s (base + 97 * at.page) 0 → at.cell < c → After base s (position_in base s at.page at.cell) (Some at)
+  unfolding position_or_end
   after_here c e h =
-      (stands, (refl, (sym (lt-ltb i (get_or s (base + 97 * p) 0) (omega arith)), sym (lt-ltb (position_in base s p i) (length (cells_in base s)) (position_in_lem base s p i there)))))
+      (there, (refl, sym (lt-ltb (position_in base s at.page at.cell) (length (cells_in base s)) (position_in_lem base s at.page at.cell there))))
     where
-      there : There base s p i
+      there : There base s at.page at.cell
       there = record { inside = stands.inside; fits = omega arith }
 
-  end : get_or s (base + 97 * p) 0 ≤ i → get_or s 1 0 ≤ p → length (cells_in base s) ≤ position_in base s p i
+  end : get_or s (base + 97 * at.page) 0 ≤ at.cell → get_or s 1 0 ≤ at.page → position_in base s at.page at.cell ≡ length (cells_in base s)
   unfolding cells_in position_in
   end h l =
       omega (
         arith,
-        offset_next (dir_at base s) p (omega (arith, dir_length base s, stands.inside)),
-        page_size base s p stands.inside,
-        offset_all (dir_at base s) (suc p) (omega (arith, dir_length base s)),
+        stands.fits,
+        offset_next (dir_at base s) at.page (omega (arith, dir_length base s, stands.inside)),
+        page_size base s at.page stands.inside,
+        offset_all (dir_at base s) (suc at.page) (omega (arith, dir_length base s)),
       )
 
-  pub after_none : (c m : ℕ) → c ≡ get_or s (base + 97 * p) 0 → c ≤ i → m ≡ get_or s 1 0 → m ≤ p → After base s (position_in base s p i) p i false
+  pub after_none : (c m : ℕ) → c ≡ get_or s (base + 97 * at.page) 0 → c ≤ at.cell → m ≡ get_or s 1 0 → m ≤ at.page →
+      After base s (position_in base s at.page at.cell) None
+  unfolding position_or_end
   after_none c m e h f l =
-      (stands, (refl, (sym (le-ltb i (get_or s (base + 97 * p) 0) (omega arith)), sym (le-ltb (position_in base s p i) (length (cells_in base s)) (end (omega arith) (omega arith))))))
+      let d = end (omega arith) (omega arith) in
+      (tt, (sym d, sym (le-ltb (position_in base s at.page at.cell) (length (cells_in base s)) (omega (arith, d)))))
 
-  pub after_page : (c m : ℕ) → c ≡ get_or s (base + 97 * p) 0 → c ≤ i → m ≡ get_or s 1 0 → p < m → After base s (position_in base s p i) (p + 1) 0 true
+  pub after_page : (c m : ℕ) → c ≡ get_or s (base + 97 * at.page) 0 → c ≤ at.cell → m ≡ get_or s 1 0 → at.page < m →
+      After base s (position_in base s at.page at.cell) (Some (record { page = at.page + 1; cell = 0 }))
+  unfolding position_or_end
   after_page c m e h f l =
-      let g : p + 1 ≡ suc p = omega arith in
-      let some : 0 < get_or s (base + 97 * suc p) 0 = ok.filled (suc p) (omega arith) (omega arith) in
-      let d : i ≡ get_or s (base + 97 * p) 0 = omega (arith, stands.fits) in
-      let q : position_in base s (suc p) 0 ≡ position_in base s p i = position_next base s p stands.inside ∙ ap (position_in base s p) (sym d) in
+      let g : at.page + 1 ≡ suc at.page = omega arith in
+      let some : 0 < get_or s (base + 97 * suc at.page) 0 = ok.filled (suc at.page) (omega arith) (omega arith) in
+      let d : at.cell ≡ get_or s (base + 97 * at.page) 0 = omega (arith, stands.fits) in
+      let q : position_in base s (suc at.page) 0 ≡ position_in base s at.page at.cell =
+      position_next base s at.page stands.inside ∙ ap (position_in base s at.page) (sym d) in
       rw g (
-        record { inside = omega arith; fits = omega arith },
-        (q, (sym (lt-ltb 0 (get_or s (base + 97 * suc p) 0) some), sym (lt-ltb (position_in base s p i) (length (cells_in base s)) (rw (← q) (position_in_lem base s (suc p) 0 (there some)))))),
+        there some,
+        (q, sym (lt-ltb (position_in base s at.page at.cell) (length (cells_in base s)) (rw (← q) (position_in_lem base s (suc at.page) 0 (there some))))),
       )
     where
-      there : 0 < get_or s (base + 97 * suc p) 0 → There base s (suc p) 0
+      there : 0 < get_or s (base + 97 * suc at.page) 0 → There base s (suc at.page) 0
       there some = record { inside = omega arith; fits = some }
 
 -- the same from the cell before
-pub after_next : (base : ℕ) (s : List ℕ) (p i q j : ℕ) (is : Bool) → After base s (position_in base s p (i + 1)) q j is → After base s (suc (position_in base s p i)) q j is
-after_next base s p i q j is a = rw (← position_after base s p i) a
+pub after_next : (base : ℕ) (s : List ℕ) (p i : ℕ) (r : Option Place) → After base s (position_in base s p (i + 1)) r → After base s (suc (position_in base s p i)) r
+after_next base s p i r a = rw (← position_after base s p i) a

@@ -4,6 +4,7 @@ ghost use Rattle.directory.specs.Cells.{cells_in};
 ghost use Rattle.directory.specs.Directory.{Directory};
 ghost use Rattle.directory.specs.Pages.{Wide, PageClosed, PageOpened, Cut, PageSplit, Merged, PagesJoined, Freed, Roomy};
 
+use crate::cells::Place;
 use crate::search::word;
 use moves::{clear, copy_within, move_up};
 
@@ -96,16 +97,13 @@ fn find_pair(s: &[u32], base: usize, n: usize) -> usize
     ensures low { result < get_or s.now 1 0 }
     ensures fits { get_or s.now (base + 97 * result) 0 + get_or s.now (base + 97 * result + 97) 0 ≤ 32 }
 {
-    let m = word(s, 1);
-    let mut k = 0;
-    while k < m {
+    for k in 0..word(s, 1) {
         let a = base + 97 * k;
         if word(s, a) + word(s, a + 97) <= 32 {
             return k;
         }
-        k += 1;
     }
-    k
+    unreachable!()
 }
 
 // Two neighbours joined, where no page is free; where page k, which is full, is then.
@@ -141,26 +139,20 @@ fn free_page(s: &mut [u32], base: usize, n: usize, k: usize) -> usize
     k
 }
 
-// A place in a page.
-#[derive(Clone, Copy)]
-pub struct Place {
-    pub page: usize,
-    pub cell: usize,
-}
-
-// Room made for a cell i of page k, which is full: where it goes now. What comes before a whole page gets a page of its own,
+// Room made for a cell at a place of a full page: where it goes now. What comes before a whole page gets a page of its own,
 // so that cells which rise one after the other fill their pages.
-pub fn make_room(s: &mut [u32], base: usize, n: usize, k: usize, i: usize) -> Place
+pub fn make_room(s: &mut [u32], base: usize, n: usize, at: Place) -> Place
     requires directory { Directory base n s.old }
     requires many { 64 < n }
     requires few { n ≤ 4096 }
     requires free { length (cells_in base s.old) < n }
-    requires inside { k ≤ get_or s.old 1 0 }
-    requires page { get_or s.old (base + 97 * k) 0 ≡ 32 }
-    requires fits { i ≤ 32 }
-    ensures room { Roomy base n k i s.old s.new result.page result.cell }
+    requires inside { at.page ≤ get_or s.old 1 0 }
+    requires page { get_or s.old (base + 97 * at.page) 0 ≡ 32 }
+    requires fits { at.cell ≤ 32 }
+    ensures room { Roomy base n at.page at.cell s.old s.new result.page result.cell }
 {
-    let j = free_page(s, base, n, k);
+    let j = free_page(s, base, n, at.page);
+    let i = at.cell;
     if i == 0 {
         split(s, base, n, j, 0);
         return Place { page: j, cell: i };

@@ -13,10 +13,11 @@ use lib.ListN.{get_or, get_or-map}
 use borrow.Author.Tests.{ltb-true, ltb-false, eqb-true, le-leb, lt-leb}
 use Rattle.lists.specs.Lists.{keep}
 use Rattle.lists.proofs.Bools.{never}
-use Rattle.request.specs.Table
-use Rattle.request.specs.Table.{Kind, IndexField, row, at, table, no_row, row_of}
+use Rattle.request.specs.declared.kind.Kind.{Kind}
+use Rattle.request.specs.declared.kind.Kind.TheVariants
+use Rattle.request.specs.Table.{IndexField, row, at, table, no_row, row_of}
 use Rattle.request.specs.Request.{request_as}
-use Rattle.request.proofs.KindNumbers.{number_of}
+use Rattle.request.specs.Table.{number_of}
 use Rattle.model.specs.Data.{Ruling, refuse, accept}
 use Rattle.model.specs.Group.{Update, Committed, Commits, commits}
 use Rattle.model.specs.Model.{work_of, Outcome}
@@ -86,27 +87,27 @@ module _ (t : ℕ) where
 
 -- the row of each kind
 sound_kind : (k : Kind) → Sound k (row_of (number_of k)).index
-unfolding number_of row_of table row at request_as work_of Within Beyond reader_sight named_in kept_as is_read is_finalize finalizes_from
-sound_kind Table.LastCommitted = record { low = λ t x e. (base t, sees_all _); high = λ t x e. never e }
-sound_kind Table.Base = record { low = λ t x e. (base t, to t 0 zero-le); high = λ t x e. never e }
-sound_kind Table.Write = record { low = λ t x e. (edit_low t (get_or x 2 0) e, to t 0 zero-le); high = λ t x e. inl (edit_high t (get_or x 2 0) e) }
-sound_kind Table.AddDelta = record { low = λ t x e. (edit_low t (get_or x 2 0) e, to t 0 zero-le); high = λ t x e. inl (edit_high t (get_or x 2 0) e) }
-sound_kind Table.Estimate = record { low = λ t x e. (edit_low t (get_or x 2 0) e, to t 0 zero-le); high = λ t x e. inl (edit_high t (get_or x 2 0) e) }
-sound_kind Table.Remove = record { low = λ t x e. (edit_low t (get_or x 2 0) e, to t 0 zero-le); high = λ t x e. inl (edit_high t (get_or x 2 0) e) }
-sound_kind Table.Fetch = record { low = λ t x e. to t (get_or x 2 0) (read_low t (get_or x 2 0) e); high = λ t x e. inl tt }
-sound_kind Table.Materialize =
+unfolding row_of table row at request_as work_of Within Beyond reader_sight named_in kept_as is_read is_finalize finalizes_from
+sound_kind TheVariants.LastCommitted = record { low = λ t x e. (base t, sees_all _); high = λ t x e. never e }
+sound_kind TheVariants.Base = record { low = λ t x e. (base t, to t 0 zero-le); high = λ t x e. never e }
+sound_kind TheVariants.Write = record { low = λ t x e. (edit_low t (get_or x 2 0) e, to t 0 zero-le); high = λ t x e. inl (edit_high t (get_or x 2 0) e) }
+sound_kind TheVariants.AddDelta = record { low = λ t x e. (edit_low t (get_or x 2 0) e, to t 0 zero-le); high = λ t x e. inl (edit_high t (get_or x 2 0) e) }
+sound_kind TheVariants.Estimate = record { low = λ t x e. (edit_low t (get_or x 2 0) e, to t 0 zero-le); high = λ t x e. inl (edit_high t (get_or x 2 0) e) }
+sound_kind TheVariants.Remove = record { low = λ t x e. (edit_low t (get_or x 2 0) e, to t 0 zero-le); high = λ t x e. inl (edit_high t (get_or x 2 0) e) }
+sound_kind TheVariants.Fetch = record { low = λ t x e. to t (get_or x 2 0) (read_low t (get_or x 2 0) e); high = λ t x e. inl tt }
+sound_kind TheVariants.Materialize =
     record {
       low = λ t x e. (edit_low t (get_or x 2 0) e, to t (suc (get_or x 2 0)) (edit_below t (get_or x 2 0) e));
       high = λ t x e. inl (edit_high t (get_or x 2 0) e);
     }
-sound_kind Table.GroupBase = record { low = λ t x e. (base t, sees_all _); high = λ t x e. never e }
-sound_kind Table.Exchange = record { low = λ t x e. (base t, sees_all _); high = λ t x e. never e }
-sound_kind Table.GroupWrite = record { low = λ t x e. edit_low t (get_or x 2 0) e; high = λ t x e. inl (edit_high t (get_or x 2 0) e) }
-sound_kind Table.GroupEstimate = record { low = λ t x e. edit_low t (get_or x 2 0) e; high = λ t x e. inl (edit_high t (get_or x 2 0) e) }
-sound_kind Table.GroupRemove = record { low = λ t x e. edit_low t (get_or x 2 0) e; high = λ t x e. inl (edit_high t (get_or x 2 0) e) }
-sound_kind Table.GroupFetch = record { low = λ t x e. to t (get_or x 3 0) (read_low t (get_or x 3 0) e); high = λ t x e. inl tt }
-sound_kind Table.GroupSize = record { low = λ t x e. to t (get_or x 2 0) (read_low t (get_or x 2 0) e); high = λ t x e. inl tt }
-sound_kind Table.Finalize =
+sound_kind TheVariants.GroupBase = record { low = λ t x e. (base t, sees_all _); high = λ t x e. never e }
+sound_kind TheVariants.Exchange = record { low = λ t x e. (base t, sees_all _); high = λ t x e. never e }
+sound_kind TheVariants.GroupWrite = record { low = λ t x e. edit_low t (get_or x 2 0) e; high = λ t x e. inl (edit_high t (get_or x 2 0) e) }
+sound_kind TheVariants.GroupEstimate = record { low = λ t x e. edit_low t (get_or x 2 0) e; high = λ t x e. inl (edit_high t (get_or x 2 0) e) }
+sound_kind TheVariants.GroupRemove = record { low = λ t x e. edit_low t (get_or x 2 0) e; high = λ t x e. inl (edit_high t (get_or x 2 0) e) }
+sound_kind TheVariants.GroupFetch = record { low = λ t x e. to t (get_or x 3 0) (read_low t (get_or x 3 0) e); high = λ t x e. inl tt }
+sound_kind TheVariants.GroupSize = record { low = λ t x e. to t (get_or x 2 0) (read_low t (get_or x 2 0) e); high = λ t x e. inl tt }
+sound_kind TheVariants.Finalize =
     record {
       low = λ t x e. (edit_low t (get_or x 2 0) e, sees_all _);
       high = λ t x e. inr (λ o. final_high t (get_or x 2 0) (is_answered o) e);
@@ -114,7 +115,7 @@ sound_kind Table.Finalize =
 
 -- Every row has the index field of its kind's number, and so has the row of a number that no kind has.
 row_index : (n : ℕ) → (row_of (number_of (row_of n).kind)).index ≡ (row_of n).index
-unfolding row_of table row at number_of no_row
+unfolding row_of table row at no_row
 row_index n =
     sym (get_or-map (λ r. (row_of (number_of r.kind)).index) table n no_row) ∙ get_or-map (λ r. r.index) table n no_row
 

@@ -18,7 +18,9 @@ use Rattle.delta.proofs.DeltaFormat.{ok_valid, delta_at_small}
 use Rattle.types.specs.Value.{value_width, value_at, value_ok, is_exchanged, is_deletion}
 use Rattle.types.specs.Response.{kind_in}
 use Rattle.types.proofs.ValueLaws.{length_value_at}
-use Rattle.request.specs.Table.{Kind, Estimate, Remove, Fetch, GroupBase, GroupWrite, GroupEstimate, GroupRemove, GroupSize, Finalize, Purpose, Edits, Reads, Finalizes, IndexField, alone, by_set, Row, row, at, table, no_row, row_of}
+use Rattle.request.specs.declared.kind.Kind.{Kind}
+use Rattle.request.specs.declared.kind.Kind.TheVariants.{Estimate, Remove, Fetch, GroupBase, GroupWrite, GroupEstimate, GroupRemove, GroupSize, Finalize}
+use Rattle.request.specs.Table.{Purpose, Edits, Reads, Finalizes, IndexField, alone, by_set, Row, row, at, table, no_row, row_of}
 use Rattle.request.specs.Set.{tags_of, members_of}
 use Rattle.request.specs.Request.{row_at, tags_at, tags_by, tags, value_in, delta_in, members, tail_length, shape_ok, exchanged_ok, raw_ok, tag_ok, all, fields_ok, last_index, index_in, index_ok, refusal_of, request_as, request_of}
 use Rattle.request.proofs.CheckAnswers.{shape_whole, shape_length}

@@ -1,5 +1,8 @@
 -- Cells that name payloads by number, where each payload carries its cell's rank.
-use Rattle.std.specs.Prelude.{◌≡◌, Bool, true, false, cond, ◌&&◌, ◌||◌, List, [], ◌∷◌, map, ℕ, ◌+◌, ◌-◌, ◌*◌, ◌/◌, ◌%◌, ◌<◌, ltb, eqb}
+use Rattle.std.specs.Prelude.{◌≡◌, refl, Bool, true, false, cond, ◌&&◌, ◌||◌, List, [], ◌∷◌, map, ℕ, ◌+◌, ◌-◌, ◌*◌, ◌/◌, ◌%◌, ◌<◌, ltb, eqb}
+use mathlib.Core.HLevel.{×_prop}
+use native.Mathlib.Nat.{ℕ_set}
+use native.Mathlib.Bridge.{le_prop}
 
 -- A cell: its spot (place and key as one value) and a word with the number of its payload and, above it, marks.
 pub record Cell : Type 0 where
@@ -50,6 +53,24 @@ Drops (x ∷ xs) = Below x xs × Drops xs
 unfoldable pub Tied : (ℕ → ℕ) → List Cell → Type 0
 Tied carried [] = Unit
 Tied carried (c ∷ cs) = (carried (number_of c) ≡ rank_of c) × Tied carried cs
+
+-- Each of these has one proof at most, so a struct may carry them.
+pub Below-prop : (n : ℕ) (xs : List ℕ) → IsProp (Below n xs)
+unfolding Below
+Below-prop n [] = λ p q. refl
+Below-prop n (x ∷ xs) = ×_prop le_prop (Below-prop n xs)
+
+pub Drops-prop : (xs : List ℕ) → IsProp (Drops xs)
+unfolding Drops
+Drops-prop [] = λ p q. refl
+Drops-prop (x ∷ xs) = ×_prop (Below-prop x xs) (Drops-prop xs)
+
+pub Tied-prop : (carried : ℕ → ℕ) (cs : List Cell) → IsProp (Tied carried cs)
+unfolding Tied
+Tied-prop carried [] = λ p q. refl
+Tied-prop carried (c ∷ cs) = ×_prop (ℕ_set (carried (number_of c)) (rank_of c)) (Tied-prop carried cs)
+
+pub ruleset props = (Below-prop, Drops-prop, Tied-prop, le_prop, ℕ_set)
 
 -- What a scan asks of one cell: its number is below h, its payload carries its rank, and its rank is below the one before it.
 unfoldable pub fine : (ℕ → ℕ) → ℕ → ℕ → Cell → Bool

@@ -6,15 +6,18 @@ use Prim.Native.Nat.{ℕ, ◌+◌, ◌*◌, ◌≤◌, ◌<◌}
 use native.Mathlib.Omega.{arith}
 use lib.Dec.{eqb, ltb}
 use lib.ListN.{length}
+use Rattle.std.specs.Prelude.{Ok, Err}
 use borrow.Author.Tests.{ltb-true, eqb-true, not-true, not-false}
 use Rattle.lists.proofs.Bools.{and_left, and_right, and_three}
-use Rattle.types.specs.Refusal.{wrong_count, bad_field, index_too_high}
+use Rattle.types.specs.Refusal.{wrong_count, bad_field, index_too_high, refusal_number, result_number}
 use Rattle.request.specs.Table.{by_set, longest_of, longest_count}
 use Rattle.request.specs.Request.{row_at, count_of, tags_by, tags, tail_length, tail_ok, count_ok, shape_ok, fields_ok, index_ok, refusal_of}
-use Rattle.request.specs.Fields.{fields_at}
-use Rattle.request.specs.Checked.{check_of}
+use Rattle.request.specs.Fields.{kind_at, fields_at}
+use Rattle.request.specs.Checked.{refusal_named, check_of}
 use Rattle.request.specs.declared.asked.Fields.{Fields}
-use Rattle.request.specs.declared.Checked.TheVariants.{Refused, Accepted}
+use Rattle.types.specs.declared.refusal.Refusal.{Refusal}
+use Rattle.types.specs.declared.refusal.Refusal.TheVariants.{WrongCount, BadField, IndexTooHigh}
+use Rattle.request.proofs.KindNumbers.{there_small}
 use Rattle.request.proofs.Shapes.{row_at_bounds, shape_empty}
 use Rattle.request.proofs.TableTails.{tail_length_le}
 
@@ -39,6 +42,11 @@ module _ (t : List ℕ) (s : shape_ok t ≡ true) where
   unfolding tags tags_by tail_length
   shape_values each q = rw q (rw q at shape_length)
 
+  -- No request of the right shape is of a kind that is absent.
+  pub shape_small : kind_at t < 16
+  unfolding count_ok row_at kind_at
+  shape_small = there_small (kind_at t) t (and_left (tail_ok (row_at t).tail t) _ parts.2)
+
   -- No request of the right shape counts more words than the longest.
   pub shape_longest : count_of t ≤ longest_count
   unfolding count_ok longest_of
@@ -48,12 +56,12 @@ module _ (t : List ℕ) (s : shape_ok t ≡ true) where
 
 -- ---- the refusal, from the three tests
 
-pub check_empty : (t : List ℕ) → length t ≤ 0 → Refused wrong_count ≡ check_of t
+pub check_empty : (t : List ℕ) → length t ≤ 0 → Err WrongCount ≡ check_of t
 unfolding check_of refusal_of
 check_empty t h = rw (sym (shape_empty t h)) refl
 
 module _ (t : List ℕ) (a : Bool) (s : a ≡ shape_ok t) where
-  pub check_shape : not a ≡ true → Refused wrong_count ≡ check_of t
+  pub check_shape : not a ≡ true → Err WrongCount ≡ check_of t
   unfolding check_of refusal_of
   check_shape h = rw (sym s ∙ not-true a h) refl
 
@@ -62,16 +70,16 @@ module _ (t : List ℕ) (a : Bool) (s : a ≡ shape_ok t) where
     shape_true = sym s ∙ not-false a shaped
 
     module _ (b : Bool) (f : b ≡ fields_ok (row_at t).kind t) where
-      pub check_fields : not b ≡ true → Refused bad_field ≡ check_of t
+      pub check_fields : not b ≡ true → Err BadField ≡ check_of t
       unfolding check_of refusal_of
       check_fields h = rw (shape_true, sym f ∙ not-true b h) refl
 
       module _ (ruled : not b ≡ false) (c : Bool) (i : c ≡ index_ok t) where
-        pub check_index : not c ≡ true → Refused index_too_high ≡ check_of t
+        pub check_index : not c ≡ true → Err IndexTooHigh ≡ check_of t
         unfolding check_of refusal_of
         check_index h = rw (shape_true, sym f ∙ not-false b ruled, sym i ∙ not-true c h) refl
 
-        pub check_accepted : not c ≡ false → (g : Fields) → g ≡ fields_at t → Accepted g ≡ check_of t
+        pub check_accepted : not c ≡ false → (g : Fields) → g ≡ fields_at t → Ok g ≡ check_of t
         unfolding check_of refusal_of
         check_accepted h g e = rw (shape_true, sym f ∙ not-false b ruled, sym i ∙ not-false c h, e) refl
 
@@ -105,11 +113,11 @@ none_index true true false e = absurd (omega arith)
 none_index true false false e = absurd (omega arith)
 none_index false b false e = absurd (omega arith)
 
-by_accepted : (b : Bool) (n : ℕ) (g f : Fields) → eqb n 0 ≡ b → cond b (Accepted g) (Refused n) ≡ Accepted f → n ≡ 0
+by_accepted : (b : Bool) (n : ℕ) (g f : Fields) → eqb n 0 ≡ b → cond b (Ok g) (Err (refusal_named n)) ≡ Ok f → n ≡ 0
 by_accepted true n g f e h = eqb-true n 0 e
 by_accepted false n g f e h = absurd (let z : ◌≡◌ {A = ℕ} 0 1 = cc in omega arith)
 
-by_fields : (b : Bool) (n : ℕ) (g f : Fields) → cond b (Accepted g) (Refused n) ≡ Accepted f → f ≡ g
+by_fields : (b : Bool) (n : ℕ) (g f : Fields) → cond b (Ok g) (Err (refusal_named n)) ≡ Ok f → f ≡ g
 by_fields true n g f h = cc
 by_fields false n g f h = absurd (let z : ◌≡◌ {A = ℕ} 0 1 = cc in omega arith)
 
@@ -118,7 +126,7 @@ module _ (t : List ℕ) where
   unfolding refusal_of refusal_by
   refusal_parts = refl
 
-  pub accepted_passed : (f : Fields) → check_of t ≡ Accepted f → Passed t f
+  pub accepted_passed : (f : Fields) → check_of t ≡ Ok f → Passed t f
   unfolding check_of
   accepted_passed f h =
       let z : refusal_of t ≡ 0 = by_accepted (eqb (refusal_of t) 0) (refusal_of t) (fields_at t) f refl h in
@@ -130,3 +138,22 @@ module _ (t : List ℕ) where
         served = none_index (shape_ok t) (fields_ok (row_at t).kind t) (index_ok t) p;
         fields = by_fields (eqb (refusal_of t) 0) (refusal_of t) (fields_at t) f h;
       }
+
+-- ---- the whole check, by its number
+
+number_by : (a b c : Bool) (g : Fields)
+    → result_number (cond (eqb (refusal_by a b c) 0) (Ok g) (Err (refusal_named (refusal_by a b c)))) ≡ refusal_by a b c
+unfolding refusal_by
+number_by true true true g = refl
+number_by true true false g = refl
+number_by true false c g = refl
+number_by false b c g = refl
+
+module _ (t : List ℕ) where
+  pub check_number : result_number (check_of t) ≡ refusal_of t
+  unfolding check_of
+  check_number =
+      rw (refusal_parts t) (number_by (shape_ok t) (fields_ok (row_at t).kind t) (index_ok t) (fields_at t))
+
+  pub refused_told : (refusal : Refusal) → check_of t ≡ Err refusal → refusal_number refusal ≡ refusal_of t
+  refused_told refusal e = rw e at check_number

@@ -12,13 +12,13 @@ use borrow.Author.Tests.{eq-eqb, ne_eqb, leb-true}
 use Rattle.lists.proofs.Bools.{and_three}
 use Rattle.delta.specs.Delta.{delta_ok}
 use Rattle.types.specs.Value.{value_width, is_deletion}
-use Rattle.request.specs.Table.{Purpose, Edits, Reads, Materializes, Finalizes, IndexField, alone, by_set, at, row, table, row_of, index_place, tag_place}
+use Rattle.request.specs.Table.{number_of, Purpose, Edits, Reads, Materializes, Finalizes, IndexField, alone, by_set, at, row, table, row_of, index_place, tag_place}
 use Rattle.request.specs.Set.{tags_of}
 use Rattle.request.specs.Request.{row_at, tags, value_in, delta_in, tail_length, exchanged_ok, tag_ok, fields_ok, last_index, index_in, index_ok}
 use Rattle.request.specs.Fields.{kind_at, index_field, index_at, tag_as, fields_at}
 use Rattle.request.specs.declared.asked.Fields.{Fields}
-use Rattle.request.proofs.CheckAnswers.{Passed, shape_whole, shape_length, shape_values}
-use Rattle.request.proofs.KindNumbers.{row_named}
+use Rattle.request.proofs.CheckAnswers.{Passed, shape_small, shape_whole, shape_length, shape_values}
+use Rattle.request.proofs.KindNumbers.{number_back, row_named}
 use Rattle.request.proofs.Shapes.{tags_set_at}
 
 last_le : (p : Purpose) → last_index p ≤ 4294967294
@@ -34,9 +34,9 @@ index_le none t e = zero-le
 index_le (some f) t e = omega (arith, leb-true (get_or t f.place 0) (last_index f.purpose) e, last_le f.purpose)
 
 module _ (t : List ℕ) (f : Fields) (p : Passed t f) where
-  pub kind_is : f.kind ≡ kind_at t
+  pub kind_is : number_of f.kind ≡ kind_at t
   unfolding fields_at
-  kind_is = ap (λ (g : Fields). g.kind) p.fields
+  kind_is = ap (λ (g : Fields). number_of g.kind) p.fields ∙ number_back (kind_at t) (shape_small t p.shape)
 
   index_is : f.index ≡ index_at t
   unfolding fields_at
@@ -46,9 +46,9 @@ module _ (t : List ℕ) (f : Fields) (p : Passed t f) where
   unfolding fields_at
   set_is = ap (λ (g : Fields). tags_of g.set.low g.set.high) p.fields ∙ tags_set_at t
 
-  module _ (n : ℕ) (k : f.kind ≡ n) where
+  module _ (n : ℕ) (k : number_of f.kind ≡ n) where
     row_is : row_at t ≡ row_of n
-    row_is = row_named t f.kind kind_is n k
+    row_is = row_named t (number_of f.kind) kind_is n k
 
     passed_rule : fields_ok (row_of n).kind t ≡ true
     passed_rule = rw row_is at p.rules
@@ -83,21 +83,21 @@ module _ (t : List ℕ) (f : Fields) (p : Passed t f) where
   passed_index = rw index_is (index_le (row_at t).index t p.served)
 
   -- That of kind 7 can be shifted twice.
-  pub passed_materialize : f.kind ≡ 7 → f.index ≤ 4294967293
+  pub passed_materialize : number_of f.kind ≡ 7 → f.index ≤ 4294967293
   unfolding index_at index_ok row_of table row at index_in index_field last_index
   passed_materialize k =
       let s : index_in (row_of 7).index t ≡ true = rw (row_is 7 k) at p.served in
       rw (index_is, row_is 7 k) (leb-true (get_or t index_place 0) 4294967293 s)
 
-  pub passed_delta : f.kind ≡ 3 → delta_ok (drop f.value t) ≡ true
+  pub passed_delta : number_of f.kind ≡ 3 → delta_ok (drop f.value t) ≡ true
   unfolding row_of table row fields_ok delta_in fields_at
   passed_delta k = ap (λ (g : Fields). delta_ok (drop g.value t)) p.fields ∙ passed_rule 3 k
 
-  exchange_tag : f.kind ≡ 9 → tag_ok (get_or t tag_place 0) ≡ true
+  exchange_tag : number_of f.kind ≡ 9 → tag_ok (get_or t tag_place 0) ≡ true
   unfolding row_of table row fields_ok
   exchange_tag k = (and_three (tag_ok (get_or t tag_place 0)) (exchanged_ok (value_in t)) (not (is_deletion (value_in t))) (passed_rule 9 k)).0
 
-  fetch_tag : f.kind ≡ 13 → tag_ok (get_or t tag_place 0) ≡ true
+  fetch_tag : number_of f.kind ≡ 13 → tag_ok (get_or t tag_place 0) ≡ true
   unfolding row_of table row fields_ok
   fetch_tag k = passed_rule 13 k
 

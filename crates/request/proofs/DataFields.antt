@@ -9,13 +9,13 @@ use lib.ListN.{length, get_or, take, drop, length-drop}
 use lib.Seq.{take_all}
 use Rattle.delta.specs.Delta.{delta_width, delta_at, delta_ok}
 use Rattle.types.specs.Value.{value_width, value_at}
-use Rattle.request.specs.Table.{row, at, table, row_of, key_place, index_place, incarnation_place}
-use Rattle.request.specs.Request.{row_at, value_in, delta_in, tail_length, refusal_of, base, write, add_delta, estimate, remove, fetch, materialize, request_as, request_of}
+use Rattle.request.specs.Table.{number_of, row, at, table, row_of, key_place, index_place, incarnation_place}
+use Rattle.request.specs.Request.{row_at, value_in, delta_in, tail_length, shape_ok, refusal_of, base, write, add_delta, estimate, remove, fetch, materialize, request_as, request_of}
 use Rattle.request.specs.Fields.{kind_at, index_field, index_at, incarnation_as, fields_at}
 use Rattle.request.specs.Checked.{check_of}
-use Rattle.request.specs.declared.Checked.TheVariants.{Accepted}
-use Rattle.request.proofs.KindNumbers.{row_named}
-use Rattle.request.proofs.CheckAnswers.{Passed, shape_length, accepted_passed}
+use Rattle.std.specs.Prelude.{Ok}
+use Rattle.request.proofs.KindNumbers.{number_back, row_named}
+use Rattle.request.proofs.CheckAnswers.{Passed, shape_small, shape_length, accepted_passed}
 use Rattle.request.proofs.CheckPasses.{passed_index, passed_materialize, passed_delta}
 use Rattle.request.proofs.DataRules.{each_data, data_alone}
 
@@ -40,9 +40,9 @@ module _ (t : List ℕ) where
   place : (n : ℕ) → kind_at t ≡ n → (row_at t).value ≡ (row_of n).value
   place n k = rw (named n k) refl
 
-  pub data_kind : (fields_at t).kind ≡ kind_at t
+  pub data_kind : shape_ok t ≡ true → number_of (fields_at t).kind ≡ kind_at t
   unfolding fields_at
-  data_kind = refl
+  data_kind s = number_back (kind_at t) (shape_small t s)
 
   pub data_key : (fields_at t).key ≡ get_or t key_place 0
   unfolding fields_at
@@ -107,7 +107,7 @@ module _ (t : List ℕ) where
 -- ---- a request that is not refused
 
 module _ (t : List ℕ) (z : refusal_of t ≡ 0) where
-  pub data_accepted : check_of t ≡ Accepted (fields_at t)
+  pub data_accepted : check_of t ≡ Ok (fields_at t)
   unfolding check_of
   data_accepted = rw z refl
 
@@ -143,7 +143,7 @@ module _ (t : List ℕ) (z : refusal_of t ≡ 0) where
 
   pub materialize_served : kind_at t ≡ 7 → get_or t index_place 0 ≤ 4294967293
   materialize_served k =
-      rw (data_index t (omega arith) (omega arith)) at (passed_materialize t (fields_at t) data_passed (data_kind t ∙ k))
+      rw (data_index t (omega arith) (omega arith)) at (passed_materialize t (fields_at t) data_passed (data_kind t data_passed.shape ∙ k))
 
   -- A delta is all that follows the index.
   pub delta_words_lem : kind_at t ≡ 3 → take delta_width (drop 3 t) ≡ drop 3 t
@@ -151,5 +151,5 @@ module _ (t : List ℕ) (z : refusal_of t ≡ 0) where
 
   pub delta_ok_lem : kind_at t ≡ 3 → delta_ok (take delta_width (drop 3 t)) ≡ true
   delta_ok_lem k =
-      let d : delta_ok (drop 3 t) ≡ true = rw (delta_value t k) at (passed_delta t (fields_at t) data_passed (data_kind t ∙ k)) in
+      let d : delta_ok (drop 3 t) ≡ true = rw (delta_value t k) at (passed_delta t (fields_at t) data_passed (data_kind t data_passed.shape ∙ k)) in
       ap delta_ok (delta_words_lem k) ∙ d

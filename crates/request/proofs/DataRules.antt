@@ -1,27 +1,27 @@
 -- The refusal of a request of kinds 1 to 7, from the tests that the code makes on its length, its count, its fields and its index.
 use mathlib.Core.Path.{◌≡◌, refl, sym, ap, ◌∙◌}
-use mathlib.Core.Bool.{Bool, true, false, not, cond, ◌&&◌}
+use mathlib.Core.Bool.{Bool, true, false, cond, ◌&&◌}
 use mathlib.Core.List.{List}
-use Prim.Native.Nat.{ℕ, zero, suc, ◌+◌, ◌/◌, ◌%◌, ◌^◌, ◌≤◌, ◌<◌}
+use Prim.Native.Nat.{ℕ, zero, suc, ◌+◌, ◌-◌, ◌/◌, ◌%◌, ◌^◌, ◌≤◌, ◌<◌}
 use native.Mathlib.Nat.{add-zero}
 use native.Mathlib.Omega.{arith}
 use lib.Dec.{eqb, leb, ltb}
 use lib.ListN.{length, get_or, take, drop}
 use lib.Seq.{get_or-take, get_or-drop}
-use borrow.Author.Tests.{lt-ltb, eq-eqb, ne_eqb, eqb-true, le-leb, lt-leb, not-true, not-false}
+use borrow.Author.Tests.{lt-ltb, eq-eqb, ne_eqb, eqb-true, le-leb, lt-leb}
 use Rattle.lists.proofs.Bools.{and_three}
 use Rattle.delta.specs.Delta.{delta_ok}
 use Rattle.types.specs.Value.{value_width, value_at, value_ok, is_exchanged}
 use Rattle.types.specs.Response.{count_in}
 use Rattle.types.specs.Refusal.{wrong_count, bad_field, index_too_high}
-use Rattle.request.specs.Table.{alone, row, at, table, row_of, longest_count, index_place}
-use Rattle.request.specs.Request.{row_at, count_of, tail_length, tail_ok, count_ok, shape_ok, exchanged_ok, fields_ok, index_in, index_ok, refusal_of}
-use Rattle.request.specs.Rows.{last_of, layout}
+use Rattle.request.specs.Table.{Kind, number_of, LastCommitted, Base, Write, AddDelta, Estimate, Remove, Fetch, Materialize, GroupBase, Exchange, GroupWrite, GroupEstimate, GroupRemove, GroupFetch, GroupSize, Finalize, alone, row, at, table, row_of, longest_count, index_place}
+use Rattle.request.specs.Request.{row_at, count_of, tail_length, tail_ok, count_ok, shape_ok, exchanged_ok, fields_ok, last_index, index_in, index_ok, refusal_of}
+use Rattle.request.specs.Rows.{added_to, layout, cells_of}
 use Rattle.request.specs.Fields.{kind_at, head_at, side_ok}
-use Rattle.request.specs.declared.table.Row.{Row as CodeRow}
-use Rattle.request.proofs.KindNumbers.{row_named}
+use Rattle.request.specs.declared.table.Cells.{Cells}
+use Rattle.request.proofs.KindNumbers.{number_back, row_named}
 use Rattle.request.proofs.Shapes.{fixed_few}
-use Rattle.request.proofs.CheckAnswers.{shape_length}
+use Rattle.request.proofs.CheckAnswers.{shape_small, shape_length}
 use Rattle.request.proofs.KindRules.{room_value, rule_base, rule_write, rule_delta}
 
 -- ---- the rows of the data kinds
@@ -54,18 +54,54 @@ free t =
     each_data (λ k. 3 < k → fields_ok (row_of k).kind t ≡ true) (λ h. absurd (omega arith)) (λ h. absurd (omega arith)) (λ h. absurd (omega arith)) (λ h. refl)
     (λ h. refl) (λ h. refl) (λ h. refl)
 
-index_bound_lem : (t : List ℕ) (k : ℕ) → 1 ≤ k → k ≤ 7 → 1 < k → leb (get_or t index_place 0) (last_of (row_of k).index) ≡ index_in (row_of k).index t
-unfolding row_of table row at last_of index_in
+index_bound_lem : (t : List ℕ) (k : ℕ) → 1 ≤ k → k ≤ 7 → 1 < k
+    → leb (get_or t index_place 0) (4294967295 - added_to (row_of k).index) ≡ index_in (row_of k).index t
+unfolding row_of table row at added_to last_index index_in
 index_bound_lem t =
-    each_data (λ k. 1 < k → leb (get_or t index_place 0) (last_of (row_of k).index) ≡ index_in (row_of k).index t) (λ h. absurd (omega arith)) (λ h. refl)
+    each_data (λ k. 1 < k → leb (get_or t index_place 0) (4294967295 - added_to (row_of k).index) ≡ index_in (row_of k).index t) (λ h. absurd (omega arith)) (λ h. refl)
     (λ h. refl) (λ h. refl) (λ h. refl) (λ h. refl) (λ h. refl)
 
 no_index : (t : List ℕ) (k : ℕ) → k ≡ 1 → index_in (row_of k).index t ≡ true
 unfolding row_of table row index_in
 no_index t k e = rw e refl
 
-pub the_first : (k : ℕ) → 1 ≤ k → k ≤ 3 → (k ≡ 2 → ⊥) → (k ≡ 3 → ⊥) → k ≡ 1
-the_first k low high b c = omega arith
+-- The data kinds but for the three whose fields have rules.
+pub the_rest : (k : Kind) → 1 ≤ number_of k → (k ≡ Base → ⊥) → (k ≡ Write → ⊥) → (k ≡ AddDelta → ⊥) → 3 < number_of k
+the_rest LastCommitted low a b c = absurd (omega arith)
+the_rest Base low a b c = absurd (a refl)
+the_rest Write low a b c = absurd (b refl)
+the_rest AddDelta low a b c = absurd (c refl)
+the_rest Estimate low a b c = omega arith
+the_rest Remove low a b c = omega arith
+the_rest Fetch low a b c = omega arith
+the_rest Materialize low a b c = omega arith
+the_rest GroupBase low a b c = omega arith
+the_rest Exchange low a b c = omega arith
+the_rest GroupWrite low a b c = omega arith
+the_rest GroupEstimate low a b c = omega arith
+the_rest GroupRemove low a b c = omega arith
+the_rest GroupFetch low a b c = omega arith
+the_rest GroupSize low a b c = omega arith
+the_rest Finalize low a b c = omega arith
+
+-- The least of them.
+pub not_first : (k : Kind) → 1 ≤ number_of k → (k ≡ Base → ⊥) → 1 < number_of k
+not_first LastCommitted low a = absurd (omega arith)
+not_first Base low a = absurd (a refl)
+not_first Write low a = omega arith
+not_first AddDelta low a = omega arith
+not_first Estimate low a = omega arith
+not_first Remove low a = omega arith
+not_first Fetch low a = omega arith
+not_first Materialize low a = omega arith
+not_first GroupBase low a = omega arith
+not_first Exchange low a = omega arith
+not_first GroupWrite low a = omega arith
+not_first GroupEstimate low a = omega arith
+not_first GroupRemove low a = omega arith
+not_first GroupFetch low a = omega arith
+not_first GroupSize low a = omega arith
+not_first Finalize low a = omega arith
 
 -- ---- the index
 
@@ -96,9 +132,9 @@ exchanged_at t place = ap (λ (x : ℕ). eqb (x / 2 ^ 29 % 2) 1) (head_at_lem t 
 
 module _ (t : List ℕ) (s : shape_ok t ≡ true) (kind : ℕ) (e : kind ≡ kind_at t) where
   module _ (n : ℕ) (k : kind ≡ n) where
-    head_kind : (head_at t).kind ≡ n
+    head_kind : number_of (head_at t).kind ≡ n
     unfolding head_at
-    head_kind = sym e ∙ k
+    head_kind = number_back (kind_at t) (shape_small t s) ∙ sym e ∙ k
 
     place : (row_of n).value ≡ (head_at t).row.value
     unfolding head_at
@@ -115,6 +151,9 @@ module _ (t : List ℕ) (s : shape_ok t ≡ true) (kind : ℕ) (e : kind ≡ kin
   write_side : kind ≡ 2 → (b : Bool) → b ≡ exchanged_ok (value_at 4 t) → b ≡ fields_ok (row_at t).kind t
   unfolding row_of table row side_ok
   write_side k b o = rule_write t s (head_at t) refl (head_kind 2 k) b (o ∙ ap (λ (p : ℕ). exchanged_ok (value_at p t)) (place 2 k))
+
+  pub data_free : 1 ≤ kind → kind ≤ 7 → 3 < kind → true ≡ fields_ok (row_at t).kind t
+  data_free low high h = rw (row_named t kind e kind refl) (sym (free t kind low high h))
 
   pub data_raw : kind ≡ 2 → (get_or t 4 0 / 2 ^ 29 % 2 ≡ 1 → ⊥) → false ≡ fields_ok (row_at t).kind t
   unfolding exchanged_ok
@@ -150,39 +189,39 @@ module _ (t : List ℕ) (kind : ℕ) (e : kind ≡ kind_at t) (low : 1 ≤ kind)
       let parts = and_three (ltb (row_at t).fixed (length t)) (eqb (length t) (count_of t + 1)) (count_ok (row_at t).tail (row_at t).fixed t) s in
       (whole, omega (arith, eqb-true (length t) (count_of t + 1) parts.1))
 
-  module _ (r : CodeRow) (l : r ≡ layout (row_of kind)) where
-    fixed_is : r.fixed ≡ (row_at t).fixed
-    fixed_is = rw row_is (ap (λ (x : CodeRow). x.fixed) l)
+  module _ (c : Cells) (l : c ≡ cells_of (row_of kind)) where
+    fixed_is : c.0 ≡ (row_at t).fixed
+    fixed_is = rw row_is (ap (λ (x : Cells). x.0) l)
 
-    last_is : r.last ≡ last_of (row_of kind).index
-    last_is = ap (λ (x : CodeRow). x.last) l
+    added_is : c.4 ≡ added_to (row_of kind).index
+    added_is = ap (λ (x : Cells). x.4) l
 
-    pub data_few : r.fixed ≤ longest_count
-    data_few = fixed_few t r (l ∙ ap layout (sym row_is))
+    pub data_few : c.0 ≤ longest_count
+    data_few = rw fixed_is (fixed_few t (layout (row_at t)) refl)
 
-    pub refused_length : (length t ≡ r.fixed + 1 → ⊥) → wrong_count ≡ refusal_of t
+    pub refused_length : (length t ≡ c.0 + 1 → ⊥) → wrong_count ≡ refusal_of t
     refused_length h = refused_shape t (go (shape_ok t) refl)
       where
         go : (b : Bool) → shape_ok t ≡ b → b ≡ false
         go false s = refl
         go true s = absurd (h (rw fixed_is (counts s).0))
 
-    pub index_inside : r.fixed < length t → index_place < length t
+    pub index_inside : c.0 < length t → index_place < length t
     index_inside h = let a : 2 ≤ (row_at t).fixed = rw row_is (data_fixed kind low high) in omega (arith, fixed_is)
 
-    module _ (n : ℕ) (c : n ≡ count_in (get_or t 0 0)) where
+    module _ (n : ℕ) (m : n ≡ count_in (get_or t 0 0)) where
       count_is : n ≡ count_of t
       unfolding count_of
-      count_is = c
+      count_is = m
 
-      pub refused_count : (n ≡ r.fixed → ⊥) → wrong_count ≡ refusal_of t
+      pub refused_count : (n ≡ c.0 → ⊥) → wrong_count ≡ refusal_of t
       refused_count h = refused_shape t (go (shape_ok t) refl)
         where
           go : (b : Bool) → shape_ok t ≡ b → b ≡ false
           go false s = refl
           go true s = absurd (h (rw fixed_is (count_is ∙ (counts s).1)))
 
-      module _ (long : length t ≡ r.fixed + 1) (f : n ≡ r.fixed) where
+      module _ (long : length t ≡ c.0 + 1) (f : n ≡ c.0) where
         pub data_shape : shape_ok t ≡ true
         unfolding shape_ok count_ok tail_ok tail_length
         data_shape =
@@ -191,26 +230,17 @@ module _ (t : List ℕ) (kind : ℕ) (e : kind ≡ kind_at t) (low : 1 ≤ kind)
             let b : length t ≡ count_of t + 1 = omega (arith, fixed_is) in
             rw (tail_is, lt-ltb (row_at t).fixed (length t) a, eq-eqb (length t) (count_of t + 1) b, eq-eqb (count_of t) ((row_at t).fixed + 0) (omega arith)) refl
 
-        module _ (x : ℕ) (y : x ≡ cond (leb (get_or t index_place 0) r.last) 0 index_too_high) where
-          index_is : 1 < kind → x ≡ cond (index_ok t) 0 index_too_high
-          unfolding index_ok
-          index_is h = y ∙ rw (row_is, last_is, index_bound_lem t kind low high h) refl
-
-          pub refused_plain : 3 < kind → x ≡ refusal_of t
-          unfolding refusal_of
-          refused_plain h =
-              let g : fields_ok (row_at t).kind t ≡ true = rw row_is (free t kind low high h) in
-              rw (data_shape, g) (index_is (omega arith))
-
-          pub refused_index : (b : Bool) → b ≡ fields_ok (row_at t).kind t → not b ≡ false → (kind ≡ 1 → ⊥) → x ≡ refusal_of t
-          unfolding refusal_of
-          refused_index b g ok h = rw (data_shape, sym g ∙ not-false b ok) (index_is (omega arith))
-
         module _ (b : Bool) (g : b ≡ fields_ok (row_at t).kind t) where
-          pub refused_field : not b ≡ true → bad_field ≡ refusal_of t
+          pub refused_field : b ≡ false → bad_field ≡ refusal_of t
           unfolding refusal_of
-          refused_field h = rw (data_shape, sym g ∙ not-true b h) refl
+          refused_field h = rw (data_shape, sym g ∙ h) refl
 
-          pub none_refused : not b ≡ false → kind ≡ 1 → 0 ≡ refusal_of t
+          pub none_refused : b ≡ true → kind ≡ 1 → 0 ≡ refusal_of t
           unfolding refusal_of index_ok
-          none_refused h k = rw (data_shape, sym g ∙ not-false b h, row_is, no_index t kind k) refl
+          none_refused h k = rw (data_shape, sym g ∙ h, row_is, no_index t kind k) refl
+
+          pub refused_index : (x : ℕ) → x ≡ cond (leb (get_or t index_place 0) (4294967295 - c.4)) 0 index_too_high → b ≡ true → 1 < kind → x ≡ refusal_of t
+          unfolding refusal_of index_ok
+          refused_index x y h more =
+              let i : x ≡ cond (index_in (row_of kind).index t) 0 index_too_high = y ∙ rw (added_is, index_bound_lem t kind low high more) refl in
+              rw (data_shape, sym g ∙ h, row_is) i

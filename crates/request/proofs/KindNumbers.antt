@@ -1,35 +1,17 @@
 -- The number of a kind, which four bits of the head hold, and the row that it names.
 use mathlib.Core.Path.{◌≡◌, refl, sym, ap, ◌∙◌}
-use mathlib.Core.Bool.{Bool, true, ◌&&◌}
+use mathlib.Core.Bool.{Bool, true, false, ◌&&◌}
 use mathlib.Core.List.{List, [], ◌∷◌}
-use Prim.Native.Nat.{ℕ, zero, suc, ◌+◌, ◌<◌}
+use Prim.Native.Nat.{ℕ, zero, suc, ◌+◌, ◌<◌, ◌≤◌}
 use native.Mathlib.Nat.{zero-add, add-zero, add-suc, suc-add}
 use native.Mathlib.Omega.{arith}
-use lib.Dec.{eqb}
-use lib.ListN.{length, get_or}
-use borrow.Author.Tests.{eqb-true}
-use Rattle.lists.proofs.Bools.{and_left, and_right}
-use Rattle.request.specs.Table.{Kind, LastCommitted, Base, Write, AddDelta, Estimate, Remove, Fetch, Materialize, GroupBase, Exchange, GroupWrite, GroupEstimate, GroupRemove, GroupFetch, GroupSize, Finalize, Row, row, table, no_row, row_of}
-use Rattle.request.specs.Request.{row_at}
+use lib.Dec.{eqb, ltb}
+use lib.ListN.{length, get_or, get_or-eq_default}
+use borrow.Author.Tests.{eqb-true, ltb-true, ltb-false}
+use Rattle.lists.proofs.Bools.{and_left, and_right, true_not_false}
+use Rattle.request.specs.Table.{Kind, LastCommitted, Base, Write, AddDelta, Estimate, Remove, Fetch, Materialize, GroupBase, Exchange, GroupWrite, GroupEstimate, GroupRemove, GroupFetch, GroupSize, Finalize, number_of, Row, row, table, no_row, row_of, kind_of}
+use Rattle.request.specs.Request.{tail_ok, row_at}
 use Rattle.request.specs.Fields.{kind_at}
-
-unfoldable pub number_of : Kind → ℕ
-number_of LastCommitted = 0
-number_of Base = 1
-number_of Write = 2
-number_of AddDelta = 3
-number_of Estimate = 4
-number_of Remove = 5
-number_of Fetch = 6
-number_of Materialize = 7
-number_of GroupBase = 8
-number_of Exchange = 9
-number_of GroupWrite = 10
-number_of GroupEstimate = 11
-number_of GroupRemove = 12
-number_of GroupFetch = 13
-number_of GroupSize = 14
-number_of Finalize = 15
 
 -- The rows stand in the order of their kinds' numbers.
 in_order_lem : ℕ → List Row → Bool
@@ -44,8 +26,28 @@ order_get_d (r ∷ rs) d i (suc k) e h =
     rw (add-suc, ← suc-add) (order_get_d rs d (suc i) k (and_right (eqb (number_of r.kind) i) _ e) (omega arith))
 
 pub row_number : (k : ℕ) → k < 16 → number_of (row_of k).kind ≡ k
-unfolding in_order_lem number_of row_of table row
+unfolding in_order_lem row_of table row
 row_number k h = rw zero-add at (order_get_d table no_row 0 k refl h)
+
+pub number_back : (n : ℕ) → n < 16 → number_of (kind_of n) ≡ n
+unfolding kind_of
+number_back n h = row_number n h
+
+-- No request is of a kind whose number four bits do not hold.
+past_is : (k : ℕ) → 16 ≤ k → row_of k ≡ no_row
+unfolding row_of table
+past_is k h = get_or-eq_default table no_row h
+
+absent_past : (k : ℕ) (t : List ℕ) → 16 ≤ k → tail_ok (row_of k).tail t ≡ false
+unfolding no_row row tail_ok
+absent_past k t h = rw (past_is k h) refl
+
+pub there_small : (k : ℕ) (t : List ℕ) → tail_ok (row_of k).tail t ≡ true → k < 16
+there_small k t e = go (ltb k 16) refl
+  where
+    go : (b : Bool) → ltb k 16 ≡ b → k < 16
+    go true f = ltb-true k 16 f
+    go false f = true_not_false (tail_ok (row_of k).tail t) e (absent_past k t (ltb-false k 16 f))
 
 module _ (t : List ℕ) (kind : ℕ) (e : kind ≡ kind_at t) where
   pub row_named : (n : ℕ) → kind ≡ n → row_at t ≡ row_of n
@@ -55,3 +57,21 @@ module _ (t : List ℕ) (kind : ℕ) (e : kind ≡ kind_at t) where
   pub kind_number : kind < 16 → number_of (row_at t).kind ≡ kind
   unfolding row_at kind_at
   kind_number h = rw (← e) (row_number kind h)
+
+pub number_small : (k : Kind) → number_of k < 16
+number_small LastCommitted = omega arith
+number_small Base = omega arith
+number_small Write = omega arith
+number_small AddDelta = omega arith
+number_small Estimate = omega arith
+number_small Remove = omega arith
+number_small Fetch = omega arith
+number_small Materialize = omega arith
+number_small GroupBase = omega arith
+number_small Exchange = omega arith
+number_small GroupWrite = omega arith
+number_small GroupEstimate = omega arith
+number_small GroupRemove = omega arith
+number_small GroupFetch = omega arith
+number_small GroupSize = omega arith
+number_small Finalize = omega arith

@@ -2,70 +2,65 @@
 use mathlib.Core.Path.{◌≡◌, refl, ap, ◌∙◌}
 use mathlib.Core.Bool.{Bool, true, ◌&&◌}
 use mathlib.Core.List.{List, [], ◌∷◌, map}
-use mathlib.Core.Option.{Option, none, some}
+use mathlib.Core.Option.{Option as Maybe}
+use mathlib.Core.Option.{none, some}
+use Rattle.std.specs.Prelude.{Option, Some, None}
 use Prim.Native.Nat.{ℕ, ◌-◌, ◌<◌, ◌≤◌, max}
 use lib.Dec.{ltb, leb}
 use lib.ListN.{get_or}
 use borrow.Author.Tests.{ltb-true, leb-true}
 use Rattle.lists.specs.Lists.{every}
-use Rattle.lists.proofs.Bools.{and_five}
+use Rattle.lists.proofs.Bools.{and_four}
 use Rattle.lists.proofs.Lists.{every_get_d, get_d_map_lt}
 use Rattle.types.specs.Response.{set_width}
 use Rattle.request.specs.Table.{IndexField, Purpose, Edits, Reads, Materializes, Finalizes, Tail, alone, by_set, by_count, absent, Row, row, at, table, no_row, row_of, longest_tail, longest_of, longest_count}
 use Rattle.request.specs.Request.{last_index}
-use Rattle.request.specs.Rows.{place_of, last_of, form_of, each_of, counter_of, most_of, layout, added_to, cells_of}
+use Rattle.request.specs.Rows.{index_layout, layout, index_place_cell, added_to, cells_of}
+use Rattle.request.specs.declared.table.IndexField.{IndexField as CodeIndexField}
 use Rattle.request.specs.declared.table.Row.{Row as CodeRow}
 use Rattle.request.specs.declared.table.Cells.{Cells}
 
-abbrev from_cells_lem : Cells → CodeRow
-from_cells_lem c =
-    record {
-      fixed = c.0;
-      form = c.1.0;
-      each = c.1.1;
-      counter = c.1.2;
-      most = c.1.3;
-      value = c.2;
-      index = c.3;
-      last = 4294967295 - c.4;
-    }
+index_from : Option ℕ → ℕ → Option CodeIndexField
+index_from None added = None
+index_from (Some place) added = Some (record { place = place; last = 4294967295 - added })
 
-last_left : (i : Option IndexField) → 4294967295 - added_to i ≡ last_of i
-unfolding added_to last_of last_index
-last_left none = refl
-last_left (some f) = go f.purpose where
-  go : (p : Purpose) → 4294967295 - (4294967295 - last_index p) ≡ last_index p
+-- The index that its cells make.
+index_cells : (i : Maybe IndexField) → index_from (index_place_cell i) (added_to i) ≡ index_layout i
+unfolding index_from index_place_cell added_to last_index index_layout
+index_cells none = refl
+index_cells (some f) = go f.purpose where
+  go : (p : Purpose) → ◌≡◌ {A = Option CodeIndexField} (Some (record { place = f.place; last = 4294967295 - (4294967295 - last_index p) })) (Some (record { place = f.place; last = last_index p }))
   go Edits = refl
   go Reads = refl
   go Materializes = refl
   go Finalizes = refl
 
 -- The row that its cells make.
-from_cells : (r : Row) → from_cells_lem (cells_of r) ≡ layout r
-from_cells r =
-    λ i.
-    record {
-      fixed = r.fixed;
-      form = form_of r.tail;
-      each = each_of r.tail;
-      counter = counter_of r.tail;
-      most = most_of r.tail;
-      value = r.value;
-      index = place_of r.index;
-      last = last_left r.index i;
-    }
+module _ (k : ℕ) (c : Cells) (e : c ≡ cells_of (row_of k)) where
+  row_with : (i : Option CodeIndexField) → i ≡ index_from c.3 c.4
+      → ◌≡◌ {A = CodeRow} (record { fixed = c.0; tail = c.1; value = c.2; index = i }) (layout (row_of k))
+  row_with i g =
+      let f : i ≡ index_layout (row_of k).index = g ∙ ap (λ (x : Cells). index_from x.3 x.4) e ∙ index_cells (row_of k).index in
+      λ j. record { fixed = (e j).0; tail = (e j).1; value = (e j).2; index = f j }
 
-pub row_cells : (k : ℕ) (c : Cells) → c ≡ cells_of (row_of k) → from_cells_lem c ≡ layout (row_of k)
-row_cells k c e = ap from_cells_lem e ∙ from_cells (row_of k)
+  pub row_without : (i : Option CodeIndexField) → c.3 ≡ None → i ≡ None
+      → ◌≡◌ {A = CodeRow} (record { fixed = c.0; tail = c.1; value = c.2; index = i }) (layout (row_of k))
+  unfolding index_from
+  row_without i n g = row_with i (rw n g)
 
-pub code_cells : (rows : List Cells) → rows ≡ map cells_of table → (d : Cells) (k : ℕ) → k < 16 → get_or rows k d ≡ cells_of (row_of k)
+  pub row_indexed : (i : Option CodeIndexField) (place : ℕ) → c.3 ≡ Some place → i ≡ Some (record { place = place; last = 4294967295 - c.4 })
+      → ◌≡◌ {A = CodeRow} (record { fixed = c.0; tail = c.1; value = c.2; index = i }) (layout (row_of k))
+  unfolding index_from
+  row_indexed i place n g = row_with i (rw n g)
+
+pub code_cells : (rows : List Cells) → rows ≡ map cells_of table → (d : Cells) (n k : ℕ) → n ≡ k → k < 16 → get_or rows n d ≡ cells_of (row_of k)
 unfolding table row_of
-code_cells rows e d k h = rw e (get_d_map_lt cells_of table k no_row d h)
+code_cells rows e d n k m h = rw (e, m) (get_d_map_lt cells_of table k no_row d h)
 
--- An index never stands in the head's place.
-unfoldable pub has_place : Option IndexField → Bool
-has_place none = true
-has_place (some f) = ltb 0 f.place
+-- The greatest place of a row's index, which is among its fixed words.
+unfoldable pub place_of : Maybe IndexField → ℕ
+place_of none = 0
+place_of (some f) = f.place
 
 -- What a form reads among the fixed words: a set is two of them, a count is one.
 unfoldable pub holds_tail : Tail → ℕ → Bool
@@ -79,7 +74,6 @@ pub record Bounds (r : Row) : Type 0 where
   pub longest_le : longest_of r ≤ longest_count
   pub tail_held : holds_tail r.tail r.fixed ≡ true
   pub place_le : place_of r.index ≤ r.fixed
-  pub placed : has_place r.index ≡ true
 
 within : Row → Bool
 within r =
@@ -87,22 +81,20 @@ within r =
     && leb (longest_of r) longest_count
     && holds_tail r.tail r.fixed
     && leb (place_of r.index) r.fixed
-    && has_place r.index
 
 rows_within : (k : ℕ) → within (row_of k) ≡ true
-unfolding every within row_of table no_row row at place_of has_place holds_tail longest_of longest_tail
+unfolding every within row_of table no_row row at place_of holds_tail longest_of longest_tail
 rows_within k = every_get_d within table no_row refl refl k
 
 within_bounds : (r : Row) → within r ≡ true → Bounds r
 unfolding within
 within_bounds r e =
-    let parts = and_five (ltb 0 r.fixed) (leb (longest_of r) longest_count) (holds_tail r.tail r.fixed) (leb (place_of r.index) r.fixed) (has_place r.index) e in
+    let parts = and_four (ltb 0 r.fixed) (leb (longest_of r) longest_count) (holds_tail r.tail r.fixed) (leb (place_of r.index) r.fixed) e in
     record {
       fixed_pos = ltb-true 0 r.fixed parts.0;
       longest_le = leb-true (longest_of r) longest_count parts.1;
       tail_held = parts.2;
       place_le = leb-true (place_of r.index) r.fixed parts.3;
-      placed = parts.4;
     }
 
 pub row_bounds : (k : ℕ) → Bounds (row_of k)

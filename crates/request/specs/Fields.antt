@@ -1,10 +1,10 @@
--- What a request asks, as the code hands it on: the kind's number and the fields that are single words, 0 where the kind has none.
+-- What a request asks, as the code hands it on: the kind and the fields that are single words, 0 where the kind has none.
 -- Values and deltas stay in the request's words: the fields say where they begin.
 use Rattle.std.specs.Prelude.{Bool, true, false, cond, ◌&&◌, ◌||◌, List, ℕ, zero, suc, ◌-◌, eqb, get_or, take, drop}
 use Rattle.std.proofs.Math.Option.{Option, none, some}
 use Rattle.types.specs.Value.{value_width}
 use Rattle.types.specs.Response.{kind_in}
-use Rattle.request.specs.Table.{IndexField, Tail, alone, by_set, by_count, absent, key_place, tag_place, incarnation_place}
+use Rattle.request.specs.Table.{kind_of, IndexField, Tail, alone, by_set, by_count, absent, key_place, tag_place, incarnation_place}
 use Rattle.request.specs.Request.{row_at, count_of, exchanged_ok, raw_ok}
 use Rattle.request.specs.Rows.{layout}
 use Rattle.request.specs.declared.head.Head.{Head}
@@ -16,7 +16,7 @@ kind_at t = kind_in (get_or t 0 0)
 
 -- The head of a request and its row of the table, decoded.
 unfoldable pub head_at : List ℕ → Head
-head_at t = record { kind = kind_at t; count = count_of t; row = layout (row_at t) }
+head_at t = record { kind = kind_of (kind_at t); count = count_of t; row = layout (row_at t) }
 
 abbrev pub set_of : ℕ → ℕ → Set
 set_of low high = record { low = low; high = high }
@@ -58,7 +58,7 @@ tag_as kind t = cond (eqb kind 9 || eqb kind 13) (get_or t tag_place 0) 0
 unfoldable pub fields_at : List ℕ → Fields
 fields_at t =
     record {
-      kind = kind_at t;
+      kind = kind_of (kind_at t);
       key = get_or t key_place 0;
       index = index_at t;
       incarnation = incarnation_as (kind_at t) t;

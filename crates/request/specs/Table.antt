@@ -3,11 +3,27 @@ use Rattle.std.specs.Prelude.{List, [], ◌∷◌, ℕ, ◌+◌, ◌*◌, get_or
 use Rattle.std.proofs.Math.Option.{Option, none, some}
 use Rattle.types.specs.Value.{value_width}
 use Rattle.types.specs.Response.{most_tags}
+pub use Rattle.request.specs.declared.kind.Kind.{Kind}
+pub use Rattle.request.specs.declared.kind.Kind.TheVariants.{LastCommitted, Base, Write, AddDelta, Estimate, Remove, Fetch, Materialize, GroupBase, Exchange, GroupWrite, GroupEstimate, GroupRemove, GroupFetch, GroupSize, Finalize}
 
--- What a request asks for.
-pub data Kind : Type 0 where
-  LastCommitted Base Write AddDelta Estimate Remove Fetch Materialize : Kind
-  GroupBase Exchange GroupWrite GroupEstimate GroupRemove GroupFetch GroupSize Finalize : Kind
+-- What a request asks for: the kinds of the code, and their numbers.
+abbrev pub number_of : Kind → ℕ
+number_of LastCommitted = 0
+number_of Base = 1
+number_of Write = 2
+number_of AddDelta = 3
+number_of Estimate = 4
+number_of Remove = 5
+number_of Fetch = 6
+number_of Materialize = 7
+number_of GroupBase = 8
+number_of Exchange = 9
+number_of GroupWrite = 10
+number_of GroupEstimate = 11
+number_of GroupRemove = 12
+number_of GroupFetch = 13
+number_of GroupSize = 14
+number_of Finalize = 15
 
 -- What the index field of a kind is for: to edit what stands at the index, to read below it, to materialise it or to finalise it.
 pub data Purpose : Type 0 where
@@ -87,6 +103,10 @@ no_row = row LastCommitted 1 absent 0 none
 -- The row of a kind's number, which four bits hold.
 unfoldable pub row_of : ℕ → Row
 row_of n = get_or table n no_row
+
+-- The kind of a number.
+unfoldable pub kind_of : ℕ → Kind
+kind_of n = (row_of n).kind
 
 -- The words of the longest tail.
 unfoldable pub longest_tail : Tail → ℕ

@@ -1,14 +1,15 @@
 // Kinds 1 to 7, those of the data store: which of the refusals 2, 3 and 4 a request meets, in one pass. They have no tail, and their places are known.
 ghost use Rattle.std.specs.Prelude.{◌≡◌, true, cond, ◌≤◌, ◌<◌, leb, length, get_or};
-ghost use Rattle.types.specs.Refusal.{index_too_high};
-ghost use Rattle.request.specs.Table.{index_place};
+ghost use Rattle.types.specs.Refusal.{result_number, index_too_high};
+ghost use Rattle.request.specs.Table.{number_of, index_place};
 ghost use Rattle.request.specs.Request.{row_at, shape_ok, fields_ok, refusal_of};
 ghost use Rattle.request.specs.Fields.{kind_at};
 
+use super::kind::Kind;
 use super::table;
 use super::table::LARGEST;
 use delta::words;
-use types::refusal::{BAD_FIELD, INDEX_TOO_HIGH, WRONG_COUNT};
+use types::refusal::Refusal;
 use types::{response, value};
 
 // The places of the index, of the values of a base and of a write, and of a delta.
@@ -20,63 +21,55 @@ const WRITE_VALUE: usize = 4;
 
 const DELTA: usize = 3;
 
-// The fields of kinds 1 to 3: a value, an exchanged value, a delta.
-fn fields_ok(t: &[u32], kind: usize) -> bool
+// The fields of kinds 1 to 3: a value, an exchanged value, a delta. Those of the others are free.
+fn fields_ok(t: &[u32], kind: Kind) -> bool
     requires shape { shape_ok t.now ≡ true }
-    requires kind { kind ≡ kind_at t.now }
-    requires first { 1 ≤ kind }
-    requires last { kind ≤ 3 }
+    requires kind { number_of kind ≡ kind_at t.now }
+    requires first { 1 ≤ number_of kind }
+    requires last { number_of kind ≤ 7 }
     ensures rule { result ≡ fields_ok (row_at t.now).kind t.now }
 {
-    if kind == 2 {
-        if (t[WRITE_VALUE] >> 29) % 2 != 1 {
-            return false;
-        }
-        return value::value_ok(t, WRITE_VALUE);
+    match kind {
+        Kind::Base => value::value_ok(t, BASE_VALUE),
+        Kind::Write => (t[WRITE_VALUE] >> 29) % 2 == 1 && value::value_ok(t, WRITE_VALUE),
+        Kind::AddDelta => words::is_delta(t, DELTA),
+        _ => true,
     }
-    if kind == 3 {
-        return words::is_delta(t, DELTA);
-    }
-    value::value_ok(t, BASE_VALUE)
 }
 
-fn index_refusal(t: &[u32], last: u32) -> u32
+fn index_refusal(t: &[u32], last: u32) -> Result<(), Refusal>
     requires inside { index_place < length t.now }
-    ensures served { result ≡ cond (leb (get_or t.now index_place 0) last) 0 index_too_high }
+    ensures served { result_number result ≡ cond (leb (get_or t.now index_place 0) last) 0 index_too_high }
 {
     if t[INDEX] > last {
-        return INDEX_TOO_HIGH;
+        return Err(Refusal::IndexTooHigh);
     }
-    0
+    Ok(())
 }
 
-// 2, 3 or 4, the lowest that applies, or 0. Of kinds 4 to 7 only length, count and index are looked at: their other fields are free.
+// 2, 3 or 4, the lowest that applies. Of kinds 4 to 7 only length, count and index are looked at: their other fields are free.
 // Two cells of the table are enough. A whole row goes through memory, and a fetch takes a quarter longer with it.
-pub fn data_refusal(t: &[u32], kind: usize) -> u32
+pub fn data_refusal(t: &[u32], kind: Kind) -> Result<(), Refusal>
     requires some { 0 < length t.now }
-    requires kind { kind ≡ kind_at t.now }
-    requires first { 1 ≤ kind }
-    requires last { kind ≤ 7 }
-    ensures refused { result ≡ refusal_of t.now }
+    requires kind { number_of kind ≡ kind_at t.now }
+    requires first { 1 ≤ number_of kind }
+    requires last { number_of kind ≤ 7 }
+    ensures refused { result_number result ≡ refusal_of t.now }
 {
     let cells = table::cells_of(kind);
     let fixed = cells.0 as usize;
-    let added = cells.4 as u32;
-    let last = LARGEST - added;
+    let last = LARGEST - cells.4 as u32;
     if t.len() != fixed + 1 {
-        return WRONG_COUNT;
+        return Err(Refusal::WrongCount);
     }
     if response::count_in(t[0]) != fixed {
-        return WRONG_COUNT;
-    }
-    if kind > 3 {
-        return index_refusal(t, last);
+        return Err(Refusal::WrongCount);
     }
     if !fields_ok(t, kind) {
-        return BAD_FIELD;
+        return Err(Refusal::BadField);
     }
-    if kind == 1 {
-        return 0;
+    match kind {
+        Kind::Base => Ok(()),
+        _ => index_refusal(t, last),
     }
-    index_refusal(t, last)
 }

@@ -7,6 +7,7 @@ ghost use Rattle.request.specs.Fields.{head_at, set_at, side_ok, values_ok};
 
 use super::asked::TAG;
 use super::head::Head;
+use super::kind::Kind;
 use super::set::Set;
 use delta::words;
 use types::value;
@@ -20,13 +21,7 @@ fn side_ok(t: &[u32], at: usize, exchanged: bool) -> bool
     ensures rule { result ≡ side_ok exchanged (value_at at t.now) }
 {
     let v = ValueWithLayout::read(t, at);
-    if !v.ok() {
-        return false;
-    }
-    if exchanged {
-        return v.is_exchanged();
-    }
-    !v.is_exchanged()
+    v.ok() && v.is_exchanged() == exchanged
 }
 
 // The `n` values from `at` on.
@@ -34,14 +29,10 @@ fn values_ok(t: &[u32], at: usize, n: usize, exchanged: bool) -> bool
     requires inside { at + value_width * n ≤ length t.now }
     ensures rule { result ≡ values_ok exchanged n (drop at t.now) }
 {
-    let mut left = n;
-    let mut place = at;
-    while left > 0 {
-        if !side_ok(t, place, exchanged) {
+    for i in 0..n {
+        if !side_ok(t, at + VALUE_WIDTH * i, exchanged) {
             return false;
         }
-        place += VALUE_WIDTH;
-        left -= 1;
     }
     true
 }
@@ -53,45 +44,25 @@ fn exchange_ok(t: &[u32], at: usize) -> bool
     requires inside { at + value_width ≤ length t.now }
     ensures rule { result ≡ fields_ok Exchange t.now }
 {
-    if t[TAG] > LAST_TAG {
-        return false;
-    }
-    if !side_ok(t, at, true) {
-        return false;
-    }
-    !ValueWithLayout::read(t, at).is_deletion()
+    t[TAG] <= LAST_TAG && side_ok(t, at, true) && !ValueWithLayout::read(t, at).is_deletion()
 }
 
-// The rule of the fields, by the kind's number. The other kinds have only fields that are free.
+// The rule of the fields, by the kind. The other kinds have only fields that are free.
 pub fn fields_ok(t: &[u32], head: Head, set: Set) -> bool
     requires shape { shape_ok t.now ≡ true }
     requires head { head ≡ head_at t.now }
     requires set { set ≡ set_at t.now }
     ensures rule { result ≡ fields_ok (row_at t.now).kind t.now }
 {
-    let kind = head.kind;
-    let row = head.row;
-    let at = row.value;
-    if kind == 1 {
-        return value::value_ok(t, at);
+    let at = head.row.value;
+    match head.kind {
+        Kind::Base => value::value_ok(t, at),
+        Kind::Write => side_ok(t, at, true),
+        Kind::AddDelta => words::is_delta(t, at),
+        Kind::GroupBase => values_ok(t, at, set.len(), false),
+        Kind::Exchange => exchange_ok(t, at),
+        Kind::GroupWrite => values_ok(t, at, set.len(), true),
+        Kind::GroupFetch => t[TAG] <= LAST_TAG,
+        _ => true,
     }
-    if kind == 2 {
-        return side_ok(t, at, true);
-    }
-    if kind == 3 {
-        return words::is_delta(t, at);
-    }
-    if kind == 8 {
-        return values_ok(t, at, set.len(), false);
-    }
-    if kind == 9 {
-        return exchange_ok(t, at);
-    }
-    if kind == 10 {
-        return values_ok(t, at, set.len(), true);
-    }
-    if kind == 13 {
-        return t[TAG] <= LAST_TAG;
-    }
-    true
 }

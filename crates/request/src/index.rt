@@ -11,11 +11,10 @@ pub fn index_ok(t: &[u32], row: Row) -> bool
     requires whole { (row_at t.now).fixed < length t.now }
     ensures served { result ≡ index_ok t.now }
 {
-    let index = row.index;
-    if index == 0 {
-        return true;
+    match row.index {
+        Some(field) => t[field.place] <= field.last,
+        None => true,
     }
-    t[index] <= row.last
 }
 
 // The index, or 0 where the kind has none.
@@ -24,9 +23,8 @@ pub fn index_of(t: &[u32], row: Row) -> u32
     requires whole { (row_at t.now).fixed < length t.now }
     ensures index { result ≡ index_at t.now }
 {
-    let index = row.index;
-    if index == 0 {
-        return 0;
+    match row.index {
+        Some(field) => t[field.place],
+        None => 0,
     }
-    t[index]
 }

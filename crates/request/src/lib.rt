@@ -5,42 +5,36 @@ ghost use Rattle.std.specs.Prelude.{◌≡◌};
 ghost use Rattle.request.specs.Checked.{check_of};
 
 use asked::Fields;
-use types::refusal::{BAD_FIELD, INDEX_TOO_HIGH, WRONG_COUNT};
+use types::refusal::Refusal;
 
 pub mod asked;
 pub mod data;
 pub mod fields;
 pub mod head;
 pub mod index;
+pub mod kind;
 pub mod set;
 pub mod shape;
 pub mod table;
 
-#[derive(Clone, Copy)]
-pub enum Checked {
-    // 2, 3 or 4: the lowest that applies.
-    Refused(u32),
-    Accepted(Fields),
-}
-
-// The whole check of a request of any words and length. Head and row are decoded once, and handed on.
-pub fn check(t: &[u32]) -> Checked
+// The whole check of a request of any words and length: 2, 3 or 4, the lowest that applies. Head and row are decoded once, and handed on.
+pub fn check(t: &[u32]) -> Result<Fields, Refusal>
     ensures checked { result ≡ check_of t.now }
 {
-    if t.len() == 0 {
-        return Checked::Refused(WRONG_COUNT);
+    if t.is_empty() {
+        return Err(Refusal::WrongCount);
     }
     let head = head::head_of(t);
     if !shape::shape_ok(t, head) {
-        return Checked::Refused(WRONG_COUNT);
+        return Err(Refusal::WrongCount);
     }
     let row = head.row;
     let set = shape::set_at(t, row);
     if !fields::fields_ok(t, head, set) {
-        return Checked::Refused(BAD_FIELD);
+        return Err(Refusal::BadField);
     }
     if !index::index_ok(t, row) {
-        return Checked::Refused(INDEX_TOO_HIGH);
+        return Err(Refusal::IndexTooHigh);
     }
-    Checked::Accepted(asked::fields_of(t, head, set))
+    Ok(asked::fields_of(t, head, set))
 }

@@ -6,7 +6,7 @@ ghost use Rattle.request.specs.Fields.{head_at, set_at};
 
 use super::head::Head;
 use super::set::Set;
-use super::table::{ALONE, BY_COUNT, BY_SET, Row};
+use super::table::{Row, Tail};
 
 // The set is the last two of the fixed words.
 pub fn set_at(t: &[u32], row: Row) -> Set
@@ -14,30 +14,13 @@ pub fn set_at(t: &[u32], row: Row) -> Set
     requires whole { (row_at t.now).fixed < length t.now }
     ensures set { result ≡ set_at t.now }
 {
-    let fixed = row.fixed;
-    if row.form != BY_SET {
-        return Set { low: 0, high: 0 };
+    match row.tail {
+        Tail::BySet(_) => Set {
+            low: t[row.fixed - 1],
+            high: t[row.fixed],
+        },
+        _ => Set { low: 0, high: 0 },
     }
-    Set {
-        low: t[fixed - 1],
-        high: t[fixed],
-    }
-}
-
-// A tail that a field counts.
-fn counted_ok(t: &[u32], head: Head) -> bool
-    requires head { head ≡ head_at t.now }
-    requires whole { (row_at t.now).fixed < length t.now }
-    requires form { head.row.form ≡ 2 }
-    ensures rule { result ≡ count_ok (row_at t.now).tail (row_at t.now).fixed t.now }
-{
-    let row = head.row;
-    let counter = row.counter;
-    let times = t[counter] as usize;
-    if times > row.most {
-        return false;
-    }
-    head.count == row.fixed + row.each * times
 }
 
 // Whether the head counts the words of its kind.
@@ -47,17 +30,15 @@ fn count_ok(t: &[u32], head: Head) -> bool
     ensures rule { result ≡ count_ok (row_at t.now).tail (row_at t.now).fixed t.now }
 {
     let row = head.row;
-    let form = row.form;
-    if form == ALONE {
-        return head.count == row.fixed;
+    match head.row.tail {
+        Tail::Alone => head.count == row.fixed,
+        Tail::BySet(each) => head.count == row.fixed + each as usize * set_at(t, row).len(),
+        Tail::ByCount(place, most, each) => {
+            let times = t[place as usize] as usize;
+            times <= most as usize && head.count == row.fixed + each as usize * times
+        }
+        Tail::Absent => false,
     }
-    if form == BY_SET {
-        return head.count == row.fixed + row.each * set_at(t, row).len();
-    }
-    if form == BY_COUNT {
-        return counted_ok(t, head);
-    }
-    false
 }
 
 // The fixed words must be there before a set or a count among them is read.
@@ -65,12 +46,8 @@ pub fn shape_ok(t: &[u32], head: Head) -> bool
     requires head { head ≡ head_at t.now }
     ensures rule { result ≡ shape_ok t.now }
 {
-    let row = head.row;
-    if t.len() <= row.fixed {
+    if t.len() <= head.row.fixed {
         return false;
     }
-    if t.len() != head.count + 1 {
-        return false;
-    }
-    count_ok(t, head)
+    t.len() == head.count + 1 && count_ok(t, head)
 }

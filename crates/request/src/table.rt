@@ -1,113 +1,103 @@
 // The sixteen kinds of request: how many words each has, and where its value and its index stand.
-ghost use Rattle.std.specs.Prelude.{◌≡◌, ◌<◌};
-ghost use Rattle.request.specs.Table.{row_of};
+ghost use Rattle.std.specs.Prelude.{◌≡◌};
+ghost use Rattle.request.specs.Table.{number_of, row_of};
 ghost use Rattle.request.specs.Rows.{cells_of, layout};
 
+use super::kind::Kind;
 use types::response::MOST_TAGS;
 use types::value::VALUE_WIDTH;
 
-// How the words of a kind go on after the fixed ones: not at all, ..
-pub const ALONE: usize = 0;
+// How the words of a kind go on after the fixed ones.
+#[derive(Clone, Copy, Debug, PartialEq, Eq)]
+pub enum Tail {
+    // Not at all.
+    Alone,
+    // With so many words for each tag of a set, which is the last two of the fixed words.
+    BySet(u8),
+    // With words as often as a field says: the field's place, the most that it may say, and how many words each.
+    ByCount(u8, u8, u8),
+    // No request is of this kind, whatever its words.
+    Absent,
+}
 
-// .. with words for each tag of a set, which is the last two of the fixed words, ..
-pub const BY_SET: usize = 1;
-
-// .. with words as often as a field says. All other forms are a kind that no request is of.
-pub const BY_COUNT: usize = 2;
+// The place of an index, and the last that is served.
+#[derive(Clone, Copy, Debug, PartialEq, Eq)]
+pub struct IndexField {
+    pub place: usize,
+    pub last: u32,
+}
 
 #[derive(Clone, Copy)]
 pub struct Row {
     // Words after the head, the tail left out.
     pub fixed: usize,
-    // The form of the tail.
-    pub form: usize,
-    // Words for each tag, or for each that is counted.
-    pub each: usize,
-    // The place of the count, and the most that it may say.
-    pub counter: usize,
-    pub most: usize,
-    // The place where the value, the first value or the delta begins, or 0 where there is none.
+    pub tail: Tail,
+    // The place where the value, the first value or the delta begins, or 0, the head's, where there is none.
+    // Kept: no Option, since each reader knows by the kind that there is one, and would have to open it.
     pub value: usize,
-    // The place of the index, or 0 where there is none.
-    pub index: usize,
-    // The last index that is served.
-    pub last: u32,
+    pub index: Option<IndexField>,
 }
 
-// A tail in bytes: form, words for each, and the place and the bound of a count.
+// A row in bytes, so that the whole table is a few words: `fixed`, the tail, `value`, the place of the index, and how often a request adds to its index.
 #[derive(Clone, Copy)]
-struct Tail(u8, u8, u8, u8);
-
-// A row in bytes, so that the whole table is a few words: `fixed`, the tail, `value`, `index`, and how often a request adds to its index.
-#[derive(Clone, Copy)]
-pub struct Cells(pub u8, Tail, u8, u8, pub u8);
+pub struct Cells(pub u8, Tail, u8, Option<u8>, pub u8);
 
 const VALUE: u8 = VALUE_WIDTH as u8;
 
-const NO_TAIL: Tail = Tail(0, 0, 0, 0);
-
 // A value for each tag.
-const VALUES: Tail = Tail(1, VALUE, 0, 0);
+const VALUES: Tail = Tail::BySet(VALUE);
 
 // An index to which nothing is added can be any word.
 pub const LARGEST: u32 = 4294967295;
 
 const TABLE: [Cells; 16] = [
     // 0: last committed
-    Cells(1, NO_TAIL, 0, 0, 0),
+    Cells(1, Tail::Alone, 0, None, 0),
     // 1 to 7: base, write, delta, estimate, remove, fetch, materialize
-    Cells(1 + VALUE, NO_TAIL, 2, 0, 0),
-    Cells(3 + VALUE, NO_TAIL, 4, 2, 1),
-    Cells(19, NO_TAIL, 3, 2, 1),
-    Cells(2, NO_TAIL, 0, 2, 1),
-    Cells(2, NO_TAIL, 0, 2, 1),
-    Cells(2, NO_TAIL, 0, 2, 1),
-    Cells(2, NO_TAIL, 0, 2, 2),
+    Cells(1 + VALUE, Tail::Alone, 2, None, 0),
+    Cells(3 + VALUE, Tail::Alone, 4, Some(2), 1),
+    Cells(19, Tail::Alone, 3, Some(2), 1),
+    Cells(2, Tail::Alone, 0, Some(2), 1),
+    Cells(2, Tail::Alone, 0, Some(2), 1),
+    Cells(2, Tail::Alone, 0, Some(2), 1),
+    Cells(2, Tail::Alone, 0, Some(2), 2),
     // 8 to 10: group base, exchange, group write
-    Cells(3, VALUES, 4, 0, 0),
-    Cells(2 + VALUE, NO_TAIL, 3, 0, 0),
-    Cells(5, VALUES, 6, 2, 1),
+    Cells(3, VALUES, 4, None, 0),
+    Cells(2 + VALUE, Tail::Alone, 3, None, 0),
+    Cells(5, VALUES, 6, Some(2), 1),
     // 11 to 15: group estimate, remove, fetch, size, finalize
-    Cells(2, NO_TAIL, 0, 2, 1),
-    Cells(2, NO_TAIL, 0, 2, 1),
-    Cells(3, NO_TAIL, 0, 3, 1),
-    Cells(2, NO_TAIL, 0, 2, 1),
-    Cells(2, NO_TAIL, 0, 2, 1),
+    Cells(2, Tail::Alone, 0, Some(2), 1),
+    Cells(2, Tail::Alone, 0, Some(2), 1),
+    Cells(3, Tail::Alone, 0, Some(3), 1),
+    Cells(2, Tail::Alone, 0, Some(2), 1),
+    Cells(2, Tail::Alone, 0, Some(2), 1),
 ];
 
 // The largest count of words after a head: a group write of all tags.
 pub const LONGEST_COUNT: usize = 5 + VALUE_WIDTH * MOST_TAGS;
 
-pub fn cells_of(kind: usize) -> Cells
-    requires four_bits { kind < 16 }
-    ensures cells { result ≡ cells_of (row_of kind) }
+pub fn cells_of(kind: Kind) -> Cells
+    ensures cells { result ≡ cells_of (row_of (number_of kind)) }
 {
-    TABLE[kind]
+    TABLE[kind.number()]
 }
 
-pub fn row_of(kind: usize) -> Row
-    requires four_bits { kind < 16 }
-    ensures row { result ≡ layout (row_of kind) }
+pub fn row_of(kind: Kind) -> Row
+    ensures row { result ≡ layout (row_of (number_of kind)) }
 {
     let cells = cells_of(kind);
-    let tail = cells.1;
-    let fixed = cells.0 as usize;
-    let form = tail.0 as usize;
-    let each = tail.1 as usize;
-    let counter = tail.2 as usize;
-    let most = tail.3 as usize;
-    let value = cells.2 as usize;
-    let index = cells.3 as usize;
-    let added = cells.4 as u32;
-    let last = LARGEST - added;
+    let last = LARGEST - cells.4 as u32;
+    let index = match cells.3 {
+        Some(place) => Some(IndexField {
+            place: place as usize,
+            last,
+        }),
+        None => None,
+    };
     Row {
-        fixed,
-        form,
-        each,
-        counter,
-        most,
-        value,
+        fixed: cells.0 as usize,
+        tail: cells.1,
+        value: cells.2 as usize,
         index,
-        last,
     }
 }

@@ -2,6 +2,7 @@
 -- Assumes nothing.
 use mathlib.Core.Path.{◌≡◌, refl, sym, ◌∙◌, ap}
 use mathlib.Core.Bool.{Bool, true, false, cond}
+use Rattle.std.specs.Prelude.{Option, Some, None}
 use mathlib.Core.List.{List, [], ◌∷◌}
 use Prim.Native.Nat.{ℕ, suc, ◌+◌, ◌-◌, ◌*◌, ◌%◌, ◌≤◌, ◌<◌}
 use native.Mathlib.Omega.{arith}
@@ -13,7 +14,8 @@ use Rattle.probe.specs.Cells.{spot_at, count_above}
 use Rattle.numbers.specs.Numbers.{Cell, spot_of, number_of, rank_of, spots, ranks}
 use Rattle.numbers.proofs.Distinct.{found}
 use Rattle.directory.specs.Cells.{cells_in}
-use Rattle.store.specs.Held.{base_of, carried_at, held, row_spots, position_of, no_cell}
+use Rattle.directory.specs.declared.cells.Place.{Place}
+use Rattle.store.specs.Held.{base_of, carried_at, held, row_spots, position_of, position_or_end, no_cell}
 use Rattle.store.specs.Valid.{Valid, There}
 use Rattle.store.proofs.Contents.{number_at, held_length, held_spots, payload_in, units_in_lem, base_in}
 use Rattle.store.proofs.Reading.{row_number}
@@ -75,21 +77,27 @@ module _ (w n l : ℕ) (parted : Bool) (s : List ℕ) (valid : Valid w parted n 
         go (yes e) = absurd (d (number ∙ sym (row_number w n p i s there) ∙ ap (number_at w n s) e ∙ owner_number))
         go (no e) = omega (arith, near)
 
-    -- so the next cell is there, and nearer
-    module _ (d : x ≡ l → ⊥) (q j : ℕ) (is : Bool) (after : position_of w n s q j ≡ suc (position_of w n s p i)) where
-      pub owner_again : is ≡ ltb (suc (position_of w n s p i)) (length (held w n s)) → (is ≡ true → There w n s q j) →
-          There w n s q j × (position_of w n s q j ≤ owner_at w parted n s l)
-      owner_again e f =
-          (f (e ∙ lt-ltb (suc (position_of w n s p i)) (length (held w n s)) (omega (arith, owner_next d, owner_in some))), omega (arith, owner_next d))
+    -- so the next cell is nearer
+    module _ (d : x ≡ l → ⊥) (r : Option Place) (after : position_or_end w n s r ≡ suc (position_of w n s p i)) where
+      pub owner_again : position_or_end w n s r ≤ owner_at w parted n s l
+      owner_again = omega (arith, owner_next d, after)
 
-      pub owner_less : owner_at w parted n s l - position_of w n s q j < owner_at w parted n s l - position_of w n s p i
-      owner_less = omega (arith, owner_next d)
+      pub owner_less : owner_at w parted n s l - position_or_end w n s r < owner_at w parted n s l - position_of w n s p i
+      owner_less = omega (arith, owner_next d, after)
 
-  pub owner_begin : (y a p i : ℕ) (is : Bool) → 0 < l → y ≡ spot_at s (6 + w * l) → ((k : ℕ) → get_or s k 0 < 4294967296) →
-      a ≡ count_above y (row_spots (held w n s)) → position_of w n s p i ≡ a → is ≡ ltb a (length (held w n s)) → (is ≡ true → There w n s p i) →
-      There w n s p i × (position_of w n s p i ≤ owner_at w parted n s l)
-  owner_begin y a p i is some e fits f g k h =
-      (h (k ∙ lt-ltb a (length (held w n s)) (omega (arith, owner_start y e fits, owner_in some))), omega (arith, owner_start y e fits))
+  -- a place of the search, which does not end before it
+  pub owner_begin : (y a : ℕ) (r : Option Place) → y ≡ spot_at s (6 + w * l) → ((k : ℕ) → get_or s k 0 < 4294967296) →
+      a ≡ count_above y (row_spots (held w n s)) → position_or_end w n s r ≡ a → position_or_end w n s r ≤ owner_at w parted n s l
+  owner_begin y a r e fits f g = omega (arith, owner_start y e fits)
+
+  pub near : (r : Option Place) (p : Place) → r ≡ Some p → position_or_end w n s r ≤ owner_at w parted n s l → position_of w n s p.page p.cell ≤ owner_at w parted n s l
+  unfolding position_or_end
+  near r p e h = rw e at h
+
+  pub owner_end : 0 < l → (r : Option Place) → r ≡ None → position_or_end w n s r ≤ owner_at w parted n s l → ⊥
+  unfolding position_or_end
+  owner_end some None e h = omega (arith, owner_in some)
+  owner_end some (Some p) e h = cc
 
   pub owner_room : 6 + w * l + w ≤ length s
   owner_room = omega (arith, payload_in w n parted s valid l used, units_in_lem w n parted s valid, (base_in w n parted s valid).0, (base_in w n parted s valid).1)

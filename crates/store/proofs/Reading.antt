@@ -1,7 +1,8 @@
 -- Places among the rows, and the words of a row's cell.
 -- Assumes nothing.
 use mathlib.Core.Path.{◌≡◌, refl, sym, ◌∙◌, ap}
-use mathlib.Core.Bool.{Bool, true}
+use mathlib.Core.Bool.{Bool}
+use Rattle.std.specs.Prelude.{Option, Some, None, IfSome, is_some}
 use mathlib.Core.List.{List}
 use Prim.Native.Nat.{ℕ, ◌+◌, ◌*◌, ◌/◌, ◌%◌, ◌≤◌, ◌<◌}
 use native.Mathlib.Omega.{arith}
@@ -9,11 +10,13 @@ use lib.Dec.{ltb}
 use lib.ListN.{length, get_or}
 use Rattle.probe.specs.Cells.{spot_at, count_above}
 use Rattle.numbers.specs.Numbers.{Cell, Row, number_of, spots, row_of}
+use Rattle.directory.specs.Cells as Dir
 use Rattle.directory.specs.Cells.{cell_at, cells_in, position_in}
-use Rattle.directory.specs.Directory as Dir
-use Rattle.directory.proofs.Positions.{position_in_lem, position_fits, cell_in, there_stands}
+use Rattle.directory.specs.declared.cells.Place.{Place}
+use Rattle.directory.specs.Directory as Laid
+use Rattle.directory.proofs.Positions.{position_in_lem, position_fits, cell_in}
 use Rattle.directory.proofs.Directories.{cell_inside}
-use Rattle.store.specs.Held.{base_of, payload_at, held, row_spots, position_of, content_of, no_row, no_cell}
+use Rattle.store.specs.Held.{base_of, payload_at, held, row_spots, position_of, position_or_end, content_of, no_row, no_cell}
 use Rattle.store.specs.Valid.{Valid, Stands, There}
 use Rattle.store.proofs.Contents.{number_at, content_is, held_length, held_spots, row_at, number_below, payload_in, units_in_lem, base_in}
 
@@ -27,17 +30,17 @@ module _ (w n : ℕ) (s : List ℕ) where
   place_held p i t = omega (arith, position_fits (base_of w n) s p i t, held_length w n s)
 
   -- what the search in the directory tells
-  pub found_place : (y p i : ℕ) (is : Bool) → Dir.Stands (base_of w n) s p i → is ≡ ltb i (get_or s (base_of w n + 97 * p) 0) →
-      position_in (base_of w n) s p i ≡ count_above y (spots (cells_in (base_of w n) s)) →
-      Stands w n s p i × ((position_of w n s p i ≡ count_above y (row_spots (held w n s))) × (is ≡ true → There w n s p i))
-  unfolding Stands There position_of
-  found_place y p i is t e f = (t, (rw (held_spots w n s) f, λ h. there_stands (base_of w n) s p i is t e h))
+  pub found_place : (y p i : ℕ) → Laid.Stands (base_of w n) s p i → position_in (base_of w n) s p i ≡ count_above y (spots (cells_in (base_of w n) s)) →
+      Stands w n s p i × (position_of w n s p i ≡ count_above y (row_spots (held w n s)))
+  unfolding Stands position_of
+  found_place y p i t f = (t, rw (held_spots w n s) f)
 
-  pub found_after : (position p i : ℕ) (is : Bool) → Dir.Stands (base_of w n) s p i → position_in (base_of w n) s p i ≡ position →
-      is ≡ ltb i (get_or s (base_of w n + 97 * p) 0) → is ≡ ltb position (length (cells_in (base_of w n) s)) →
-      Stands w n s p i × ((position_of w n s p i ≡ position) × ((is ≡ ltb position (length (held w n s))) × (is ≡ true → There w n s p i)))
-  unfolding Stands There position_of
-  found_after position p i is t f e g = (t, (f, (rw (held_length w n s) g, λ h. there_stands (base_of w n) s p i is t e h)))
+  pub found_after : (position : ℕ) (r : Option Place) → IfSome r (λ p. Laid.There (base_of w n) s p.page p.cell) →
+      Dir.position_or_end (base_of w n) s r ≡ position → is_some r ≡ ltb position (length (cells_in (base_of w n) s)) →
+      IfSome r (λ p. There w n s p.page p.cell) × ((position_or_end w n s r ≡ position) × (is_some r ≡ ltb position (length (held w n s))))
+  unfolding There Dir.position_or_end position_or_end position_of
+  found_after position None t f g = (tt, (held_length w n s ∙ f, rw (held_length w n s) g))
+  found_after position (Some p) t f g = (t, (f, rw (held_length w n s) g))
 
 module _ (w n p i : ℕ) (s : List ℕ) (there : There w n s p i) where
   abbrev at : ℕ
@@ -62,14 +65,6 @@ module _ (w n p i : ℕ) (s : List ℕ) (there : There w n s p i) where
   pub row_marks : row.marks ≡ get_or s (at + 2) 0 / 65536
   unfolding row_of cell_at
   row_marks = ap (λ (r : Row (List ℕ)). r.marks) row_is
-
-  pub row_place : get_or s at 0 < 4294967296 → get_or s at 0 ≡ row.spot % 4294967296
-  unfolding spot_at
-  row_place h = omega (arith, row_spot)
-
-  pub row_key : get_or s at 0 < 4294967296 → get_or s (at + 1) 0 ≡ row.spot / 4294967296
-  unfolding spot_at
-  row_key h = omega (arith, row_spot)
 
   pub row_number : number_at w n s (position_of w n s p i) ≡ get_or s (at + 2) 0 % 65536
   unfolding number_at number_of cell_at
@@ -101,14 +96,14 @@ module _ (w n p i : ℕ) (s : List ℕ) (there : There w n s p i) where
       pub read_spot : (r : ℕ) → r ≡ spot_at s a → r ≡ row.spot
       read_spot r e = e ∙ ap (spot_at s) here ∙ sym row_spot
 
-      pub read_place : ((k : ℕ) → get_or s k 0 < 4294967296) → get_or s a 0 ≡ row.spot % 4294967296
-      read_place h = rw here (row_place (h at))
+      pub read_place : (r : ℕ) → r ≡ spot_at s a % 4294967296 → r ≡ row.spot % 4294967296
+      read_place r e = e ∙ ap (λ (k : ℕ). k % 4294967296) (read_spot (spot_at s a) refl)
 
-      pub read_key : ((k : ℕ) → get_or s k 0 < 4294967296) → get_or s (a + 1) 0 ≡ row.spot / 4294967296
-      read_key h = rw here (row_key (h at))
+      pub read_key : (r : ℕ) → r ≡ spot_at s a / 4294967296 → r ≡ row.spot / 4294967296
+      read_key r e = e ∙ ap (λ (k : ℕ). k / 4294967296) (read_spot (spot_at s a) refl)
 
-      pub read_marks : ((k : ℕ) → get_or s k 0 < 4294967296) → (get_or s (a + 2) 0 / 65536 ≡ row.marks) × (get_or s (a + 2) 0 / 65536 < 65536)
-      read_marks h = (rw here (sym row_marks), omega (arith, h (a + 2)))
+      pub read_marks : get_or s (a + 2) 0 / 65536 ≡ row.marks
+      read_marks = rw here (sym row_marks)
 
       pub read_number : (6 + w * (get_or s (a + 2) 0 % 65536) + 2 ≡ content_of w n s (position_of w n s p i))
           × ((get_or s (a + 2) 0 % 65536 ≡ get_or s (at + 2) 0 % 65536)

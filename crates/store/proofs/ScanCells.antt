@@ -2,6 +2,7 @@
 -- Assumes nothing.
 use mathlib.Core.Path.{◌≡◌, refl, sym, ◌∙◌, ap}
 use mathlib.Core.Bool.{Bool, true, false, cond, ◌&&◌}
+use Rattle.std.specs.Prelude.{Option, Some, None}
 use mathlib.Core.List.{List}
 use Prim.Native.Nat.{ℕ, suc, ◌+◌, ◌-◌, ◌*◌, ◌/◌, ◌%◌, ◌≤◌, ◌<◌}
 use native.Mathlib.Omega.{arith}
@@ -19,7 +20,6 @@ use Rattle.directory.proofs.Directories.{sizes}
 use Rattle.store.specs.Held.{base_of, carried_at}
 use Rattle.store.specs.Scan.{zero_from, page_test, cells_test, valid_test, limit_at}
 use Rattle.store.proofs.Scanning.{page_told, layout_fits}
-use Rattle.store.proofs.ScanTurns.{limit_first, limit_next}
 
 zero_is : (from to : ℕ) (s : List ℕ) (y b : Bool) → y ≡ all_zero (take (to - from) (drop from s)) → y ≡ b → zero_from from to s ≡ b
 unfolding zero_from
@@ -110,7 +110,7 @@ named_other w parted s at h v held third under words x y p q n =
     small false = omega arith
 
 -- a cell after another
-module _ (carried : ℕ → ℕ) (h : ℕ) (s : List ℕ) (last at : ℕ) (r : Bool)
+module _ (carried : ℕ → ℕ) (h : ℕ) (s : List ℕ) (last : Option ℕ) (at : ℕ) (r : Bool)
     (told : r ≡ (ltb (number_of (cell_at s at)) h && eqb (carried (number_of (cell_at s at))) (rank_of (cell_at s at)))) where
   pub fine_not : r ≡ false → false ≡ fine carried h (limit_at s last at) (cell_at s at)
   unfolding fine
@@ -125,11 +125,13 @@ module _ (carried : ℕ → ℕ) (h : ℕ) (s : List ℕ) (last at : ℕ) (r : B
         let f : (ltb (number_of (cell_at s at)) h && eqb (carried (number_of (cell_at s at))) (rank_of (cell_at s at))) ≡ true = sym told ∙ e in
         rw f
 
-    pub fine_first : last ≡ 0 → true ≡ fine carried h (limit_at s last at) (cell_at s at)
-    fine_first z = sym (fine_rest ∙ rw (limit_first s last at z) (lt-ltb (rank_of (cell_at s at)) (suc (rank_of (cell_at s at))) (omega arith)))
+    pub fine_first : last ≡ None → true ≡ fine carried h (limit_at s last at) (cell_at s at)
+    unfolding limit_at
+    fine_first z = sym (fine_rest ∙ rw z (lt-ltb (rank_of (cell_at s at)) (suc (rank_of (cell_at s at))) (omega arith)))
 
-    pub fine_next : (last ≡ 0 → ⊥) → (t : Bool) → t ≡ ltb (rank_of (cell_at s at)) (rank_of (cell_at s last)) → t ≡ fine carried h (limit_at s last at) (cell_at s at)
-    fine_next z t g = g ∙ sym (fine_rest ∙ rw (limit_next s last at z))
+    pub fine_next : (p : ℕ) → last ≡ Some p → (t : Bool) → t ≡ ltb (rank_of (cell_at s at)) (rank_of (cell_at s p)) → t ≡ fine carried h (limit_at s last at) (cell_at s at)
+    unfolding limit_at
+    fine_next p z t g = g ∙ sym (fine_rest ∙ rw z)
 
 pub void_none : (c m : ℕ) → c ≡ 0 → ltb 0 m ≡ (eqb c 0 && ltb 0 m)
 void_none c m e = rw (eq-eqb c 0 e)

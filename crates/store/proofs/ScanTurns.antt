@@ -2,13 +2,14 @@
 -- Assumes nothing.
 use mathlib.Core.Path.{◌≡◌, refl, sym, ◌∙◌, ap}
 use mathlib.Core.Bool.{Bool, true, false, ◌&&◌}
+use Rattle.std.specs.Prelude.{Option, Some, None}
+use Rattle.std.specs.Option.{ForSome}
 use mathlib.Core.List.{List, [], ◌∷◌, ◌++◌, append-nil}
 use Prim.Native.Nat.{ℕ, zero, suc, ◌+◌, ◌-◌, ◌*◌, ◌≤◌, ◌<◌}
 use native.Mathlib.Omega.{arith}
 use native.Mathlib.Decide.{ℕ_discrete}
 use lib.Dec.{eqb}
 use lib.ListN.{length, get_or, length-append}
-use borrow.Author.Tests.{eq-eqb, ne_eqb}
 use Rattle.lists.proofs.Bools.{and_swap, and_assoc}
 use Rattle.probe.specs.Cells.{readings}
 use Rattle.probe.proofs.Readings.{readings_same}
@@ -20,13 +21,12 @@ use Rattle.store.specs.Held.{base_of, carried_at, no_cell}
 use Rattle.store.specs.Scan.{page_test, each_below, cells_test, limit_at}
 use Rattle.store.proofs.Scanning.{PageFine, page_told}
 
-pub limit_first : (s : List ℕ) (last at : ℕ) → last ≡ 0 → limit_at s last at ≡ suc (rank_of (cell_at s at))
-unfolding limit_at
-limit_first s last at e = rw (eq-eqb last 0 e)
+-- the cell before lies within the words
+pub none_inside : (n : ℕ) → ForSome None (λ x. x + 3 ≤ n)
+none_inside n x e = cc
 
-pub limit_next : (s : List ℕ) (last at : ℕ) → (last ≡ 0 → ⊥) → limit_at s last at ≡ rank_of (cell_at s last)
-unfolding limit_at
-limit_next s last at e = rw (ne_eqb last 0 e)
+pub some_inside : (b n : ℕ) → b + 3 ≤ n → ForSome (Some b) (λ x. x + 3 ≤ n)
+some_inside b n h x e = let i : b ≡ x = cc in omega arith
 
 and-false : (a : Bool) → (a && false) ≡ false
 and-false true = refl
@@ -34,26 +34,25 @@ and-false false = refl
 
 -- The cells of a page.
 module _ (carried : ℕ → ℕ) (h : ℕ) (s : List ℕ) (a c : ℕ) where
-  unfoldable pub cells_left : ℕ → ℕ → Bool
+  unfoldable pub cells_left : ℕ → Option ℕ → Bool
   cells_left j last = scans carried h (limit_at s last (a + 1 + 3 * j)) (readings (λ i. cell_at s (a + 1 + 3 * (j + i))) (c - j))
 
-  pub cells_turn : (j last : ℕ) → j < c →
-      cells_left j last ≡ (fine carried h (limit_at s last (a + 1 + 3 * j)) (cell_at s (a + 1 + 3 * j)) && cells_left (j + 1) (a + 1 + 3 * j))
-  unfolding cells_left scans readings
+  pub cells_turn : (j : ℕ) (last : Option ℕ) → j < c →
+      cells_left j last ≡ (fine carried h (limit_at s last (a + 1 + 3 * j)) (cell_at s (a + 1 + 3 * j)) && cells_left (j + 1) (Some (a + 1 + 3 * j)))
+  unfolding cells_left scans readings limit_at
   cells_turn j last l =
       let e : c - j ≡ suc (c - (j + 1)) = omega arith in
       let f : a + 1 + 3 * (j + 0) ≡ a + 1 + 3 * j = omega arith in
-      let g = limit_next s (a + 1 + 3 * j) (a + 1 + 3 * (j + 1)) (λ z. omega arith) in
       let t : readings (λ i. cell_at s (a + 1 + 3 * (j + suc i))) (c - (j + 1)) ≡ readings (λ i. cell_at s (a + 1 + 3 * (j + 1 + i))) (c - (j + 1)) =
       readings_same (c - (j + 1)) (λ i. cell_at s (a + 1 + 3 * (j + suc i))) (λ i. cell_at s (a + 1 + 3 * (j + 1 + i))) (λ i k.
       let d : a + 1 + 3 * (j + suc i) ≡ a + 1 + 3 * (j + 1 + i) = omega arith in ap (cell_at s) d) in
-      rw (e, f, g, t)
+      rw (e, f, t)
 
-  pub cells_done : (j last : ℕ) → c ≤ j → cells_left j last ≡ true
+  pub cells_done : (j : ℕ) (last : Option ℕ) → c ≤ j → cells_left j last ≡ true
   unfolding cells_left scans readings
   cells_done j last l = let e : c - j ≡ 0 = omega arith in rw e
 
-pub cells_start : (carried : ℕ → ℕ) (h : ℕ) (s : List ℕ) (a last : ℕ) →
+pub cells_start : (carried : ℕ → ℕ) (h : ℕ) (s : List ℕ) (a : ℕ) (last : Option ℕ) →
     cells_left carried h s a (get_or s a 0) 0 last ≡ scans carried h (limit_at s last (a + 1)) (page_at s a)
 unfolding cells_left page_at
 cells_start carried h s a last =
@@ -65,18 +64,18 @@ cells_start carried h s a last =
     rw (f, g, t)
 
 -- the ways into, on and out of the loop
-pub cells_begin : (carried : ℕ → ℕ) (h : ℕ) (s : List ℕ) (a last c : ℕ) → c ≡ get_or s a 0 →
+pub cells_begin : (carried : ℕ → ℕ) (h : ℕ) (s : List ℕ) (a : ℕ) (last : Option ℕ) (c : ℕ) → c ≡ get_or s a 0 →
     cells_left carried h s a c 0 last ≡ scans carried h (limit_at s last (a + 1)) (page_at s a)
 cells_begin carried h s a last c e = ap (λ (n : ℕ). cells_left carried h s a n 0 last) e ∙ cells_start carried h s a last
 
-module _ (carried : ℕ → ℕ) (h : ℕ) (s : List ℕ) (a c j last : ℕ) (all : Bool) (left : cells_left carried h s a c j last ≡ all) where
+module _ (carried : ℕ → ℕ) (h : ℕ) (s : List ℕ) (a c j : ℕ) (last : Option ℕ) (all : Bool) (left : cells_left carried h s a c j last ≡ all) where
   module _ (l : j < c) (r : Bool) (told : r ≡ fine carried h (limit_at s last (a + 1 + 3 * j)) (cell_at s (a + 1 + 3 * j))) where
     pub cells_stop : r ≡ false → false ≡ all
     cells_stop e =
         let f : fine carried h (limit_at s last (a + 1 + 3 * j)) (cell_at s (a + 1 + 3 * j)) ≡ false = sym told ∙ e in
         sym (sym left ∙ cells_turn carried h s a c j last l ∙ rw f)
 
-    pub cells_on : r ≡ true → cells_left carried h s a c (j + 1) (a + 1 + 3 * j) ≡ all
+    pub cells_on : r ≡ true → cells_left carried h s a c (j + 1) (Some (a + 1 + 3 * j)) ≡ all
     cells_on e =
         let f : fine carried h (limit_at s last (a + 1 + 3 * j)) (cell_at s (a + 1 + 3 * j)) ≡ true = sym told ∙ e in
         sym (sym left ∙ cells_turn carried h s a c j last l ∙ rw f)
@@ -161,17 +160,17 @@ module _ (carried : ℕ → ℕ) (h base n : ℕ) (s : List ℕ) where
   unfolding tests_from each_below
   tests_none k l = let e : suc (get_or s 1 0) - k ≡ 0 = omega arith in rw e
 
-  unfoldable pub pages_left : ℕ → ℕ → ℕ → Bool
+  unfoldable pub pages_left : ℕ → Option ℕ → ℕ → Bool
   pages_left k last sum =
       tests_from k && eqb (sum + length (flat (pages_from k))) h && scans carried h (limit_at s last (base + 97 * k + 1)) (flat (pages_from k))
 
-  pub pages_done : (k last sum : ℕ) → get_or s 1 0 < k → pages_left k last sum ≡ eqb sum h
+  pub pages_done : (k : ℕ) (last : Option ℕ) (sum : ℕ) → get_or s 1 0 < k → pages_left k last sum ≡ eqb sum h
   unfolding pages_left flat scans
   pages_done k last sum l =
       let e : sum + 0 ≡ sum = omega arith in
       rw (tests_none k l, from_none k l, e) (and_swap (eqb sum h) true)
 
-  pub pages_page : (k last sum : ℕ) → k ≤ get_or s 1 0 → page_test base n s k ≡ false → pages_left k last sum ≡ false
+  pub pages_page : (k : ℕ) (last : Option ℕ) (sum : ℕ) → k ≤ get_or s 1 0 → page_test base n s k ≡ false → pages_left k last sum ≡ false
   unfolding pages_left
   pages_page k last sum l e = rw (tests_more k l, e)
 
@@ -179,7 +178,7 @@ module _ (carried : ℕ → ℕ) (h base n : ℕ) (s : List ℕ) where
   unfolding flat
   flat_more k l = rw (from_more k l)
 
-  pub pages_cells : (k last sum : ℕ) → k ≤ get_or s 1 0 → scans carried h (limit_at s last (base + 97 * k + 1)) (page_at s (base + 97 * k)) ≡ false →
+  pub pages_cells : (k : ℕ) (last : Option ℕ) (sum : ℕ) → k ≤ get_or s 1 0 → scans carried h (limit_at s last (base + 97 * k + 1)) (page_at s (base + 97 * k)) ≡ false →
       pages_left k last sum ≡ false
   unfolding pages_left
   pages_cells k last sum l e =
@@ -194,11 +193,11 @@ module _ (carried : ℕ → ℕ) (h base n : ℕ) (s : List ℕ) where
       omega (arith, e, page_length s (base + 97 * k))
 
   -- the rank before the next page's cells; after an empty page, which is the only one, there are none
-  scan_more : (k last : ℕ) → k ≤ get_or s 1 0 → page_test base n s k ≡ true →
+  scan_more : (k : ℕ) (last : Option ℕ) → k ≤ get_or s 1 0 → page_test base n s k ≡ true →
       scans carried h (limit_at s last (base + 97 * k + 1)) (page_at s (base + 97 * k)) ≡ true →
       scans carried h (limit_at s last (base + 97 * k + 1)) (flat (pages_from k))
-      ≡ scans carried h (limit_at s (base + 97 * k + 1 + 3 * get_or s (base + 97 * k) 0 - 3) (base + 97 * (k + 1) + 1)) (flat (pages_from (k + 1)))
-  unfolding scans flat
+      ≡ scans carried h (limit_at s (Some (base + 97 * k + 1 + 3 * get_or s (base + 97 * k) 0 - 3)) (base + 97 * (k + 1) + 1)) (flat (pages_from (k + 1)))
+  unfolding scans flat limit_at
   scan_more k last l e f = go (ℕ_discrete (get_or s (base + 97 * k) 0) 0) (page_told base n s k e)
     where
       split : scans carried h (limit_at s last (base + 97 * k + 1)) (flat (pages_from k))
@@ -207,18 +206,15 @@ module _ (carried : ℕ → ℕ) (h base n : ℕ) (s : List ℕ) where
 
       go : Dec (get_or s (base + 97 * k) 0 ≡ 0) → PageFine base n s k →
           scans carried h (limit_at s last (base + 97 * k + 1)) (flat (pages_from k))
-          ≡ scans carried h (limit_at s (base + 97 * k + 1 + 3 * get_or s (base + 97 * k) 0 - 3) (base + 97 * (k + 1) + 1)) (flat (pages_from (k + 1)))
+          ≡ scans carried h (limit_at s (Some (base + 97 * k + 1 + 3 * get_or s (base + 97 * k) 0 - 3)) (base + 97 * (k + 1) + 1)) (flat (pages_from (k + 1)))
       go (yes z) p = let o = only s base k z p.filled in split ∙ rw (from_none (k + 1) (omega arith))
       go (no z) p =
           split
-          ∙ rw (
-            last_page (limit_at s last (base + 97 * k + 1)) s (base + 97 * k) (omega arith),
-            limit_next s (base + 97 * k + 1 + 3 * get_or s (base + 97 * k) 0 - 3) (base + 97 * (k + 1) + 1) (λ y. omega arith),
-          )
+          ∙ rw (last_page (limit_at s last (base + 97 * k + 1)) s (base + 97 * k) (omega arith))
 
-  pub pages_on : (k last sum : ℕ) → k ≤ get_or s 1 0 → page_test base n s k ≡ true →
+  pub pages_on : (k : ℕ) (last : Option ℕ) (sum : ℕ) → k ≤ get_or s 1 0 → page_test base n s k ≡ true →
       scans carried h (limit_at s last (base + 97 * k + 1)) (page_at s (base + 97 * k)) ≡ true →
-      pages_left k last sum ≡ pages_left (k + 1) (base + 97 * k + 1 + 3 * get_or s (base + 97 * k) 0 - 3) (sum + get_or s (base + 97 * k) 0)
+      pages_left k last sum ≡ pages_left (k + 1) (Some (base + 97 * k + 1 + 3 * get_or s (base + 97 * k) 0 - 3)) (sum + get_or s (base + 97 * k) 0)
   unfolding pages_left
   pages_on k last sum l e f = rw (tests_more k l, e, sum_more k sum l, scan_more k last l e f)
 
@@ -251,12 +247,12 @@ module _ (carried : ℕ → ℕ) (h base n : ℕ) (s : List ℕ) where
       ap (λ (c : ℕ). get_or (readings (λ i. cell_at s (a + 1 + 3 * i)) c ++ ys) 0 no_cell) e ∙ ap (cell_at s) f
 
   scan_all : page_test base n s 0 ≡ true →
-      scans carried h (limit_at s 0 (base + 97 * 0 + 1)) (cells_in base s) ≡ scans carried h (suc (rank_of (get_or (cells_in base s) 0 no_cell))) (cells_in base s)
-  unfolding scans flat
+      scans carried h (limit_at s None (base + 97 * 0 + 1)) (cells_in base s) ≡ scans carried h (suc (rank_of (get_or (cells_in base s) 0 no_cell))) (cells_in base s)
+  unfolding scans flat limit_at
   scan_all e = go (ℕ_discrete (get_or s (base + 97 * 0) 0) 0) (page_told base n s 0 e)
     where
       go : Dec (get_or s (base + 97 * 0) 0 ≡ 0) → PageFine base n s 0 →
-          scans carried h (limit_at s 0 (base + 97 * 0 + 1)) (cells_in base s)
+          scans carried h (limit_at s None (base + 97 * 0 + 1)) (cells_in base s)
           ≡ scans carried h (suc (rank_of (get_or (cells_in base s) 0 no_cell))) (cells_in base s)
       go (yes z) p =
           let o = only s base 0 z p.filled in
@@ -268,15 +264,15 @@ module _ (carried : ℕ → ℕ) (h base n : ℕ) (s : List ℕ) where
           let f : get_or (cells_in base s) 0 no_cell ≡ cell_at s (base + 97 * 0 + 1) =
           ap (λ (l : List Cell). get_or l 0 no_cell) (sym from_all ∙ flat_more 0 (omega arith))
           ∙ head_page (base + 97 * 0) (flat (pages_from (0 + 1))) (omega arith) in
-          rw (f, limit_first s 0 (base + 97 * 0 + 1) refl)
+          rw f
 
-  pub pages_start : pages_left 0 0 0
+  pub pages_start : pages_left 0 None 0
       ≡ (each_below (suc (get_or s 1 0)) (page_test base n s) && eqb (length (cells_in base s)) h
       && scans carried h (suc (rank_of (get_or (cells_in base s) 0 no_cell))) (cells_in base s))
   unfolding pages_left
   pages_start = go (page_test base n s 0) refl
     where
-      go : (b : Bool) → page_test base n s 0 ≡ b → pages_left 0 0 0
+      go : (b : Bool) → page_test base n s 0 ≡ b → pages_left 0 None 0
           ≡ (each_below (suc (get_or s 1 0)) (page_test base n s) && eqb (length (cells_in base s)) h
           && scans carried h (suc (rank_of (get_or (cells_in base s) 0 no_cell))) (cells_in base s))
       go true e = let z : 0 + length (cells_in base s) ≡ length (cells_in base s) = omega arith in rw (from_all, tests_all, z, scan_all e)
@@ -285,11 +281,11 @@ module _ (carried : ℕ → ℕ) (h base n : ℕ) (s : List ℕ) where
           rw (tests_all, f)
 
 -- the ways on and out of the loop
-pub pages_begin : (w : ℕ) (parted : Bool) (n : ℕ) (s : List ℕ) → pages_left (carried_at w parted s) (get_or s 0 0) (base_of w n) n s 0 0 0 ≡ cells_test w parted n s
+pub pages_begin : (w : ℕ) (parted : Bool) (n : ℕ) (s : List ℕ) → pages_left (carried_at w parted s) (get_or s 0 0) (base_of w n) n s 0 None 0 ≡ cells_test w parted n s
 unfolding cells_test
 pages_begin w parted n s = pages_start (carried_at w parted s) (get_or s 0 0) (base_of w n) n s
 
-module _ (w : ℕ) (parted : Bool) (n : ℕ) (s : List ℕ) (base k last sum : ℕ) (start : base ≡ base_of w n)
+module _ (w : ℕ) (parted : Bool) (n : ℕ) (s : List ℕ) (base k : ℕ) (last : Option ℕ) (sum : ℕ) (start : base ≡ base_of w n)
     (left : pages_left (carried_at w parted s) (get_or s 0 0) (base_of w n) n s k last sum ≡ cells_test w parted n s) where
   pub pages_end : (m h : ℕ) → m ≡ get_or s 1 0 → h ≡ get_or s 0 0 → m < k → eqb sum h ≡ cells_test w parted n s
   pages_end m h e f l = rw f (sym (pages_done (carried_at w parted s) (get_or s 0 0) (base_of w n) n s k last sum (omega arith)) ∙ left)
@@ -311,7 +307,7 @@ module _ (w : ℕ) (parted : Bool) (n : ℕ) (s : List ℕ) (base k last sum : �
           sym (pages_cells (carried_at w parted s) (get_or s 0 0) (base_of w n) n s k last sum (omega arith) (sym cells_is ∙ f)) ∙ left
 
       pub pages_next : t ≡ true → (c : ℕ) → c ≡ get_or s (base + 97 * k) 0 →
-          pages_left (carried_at w parted s) (get_or s 0 0) (base_of w n) n s (k + 1) (base + 97 * k + 1 + 3 * c - 3) (sum + c) ≡ cells_test w parted n s
+          pages_left (carried_at w parted s) (get_or s 0 0) (base_of w n) n s (k + 1) (Some (base + 97 * k + 1 + 3 * c - 3)) (sum + c) ≡ cells_test w parted n s
       pages_next f c g =
           rw (g, start)
           (sym (pages_on (carried_at w parted s) (get_or s 0 0) (base_of w n) n s k last sum (omega arith) (sym page_is ∙ e) (sym cells_is ∙ f)) ∙ left)

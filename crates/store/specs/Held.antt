@@ -1,11 +1,12 @@
 -- What the words of a store of n units hold: a list of rows in falling order. Word 0: units held; word 1: pages in use, less one; words 2 to 5: zero.
 -- Payload q at 6 + w q: place and key of its cell, then its content of w - 2 words. The directory at 6 + w n.
 -- Where a cell or a payload lies is left free: nothing above this crate names a word of it.
-use Rattle.std.specs.Prelude.{Bool, cond, List, [], map, ℕ, ◌+◌, ◌-◌, ◌*◌, eqb, length, get_or}
+use Rattle.std.specs.Prelude.{Bool, cond, List, [], map, ℕ, ◌+◌, ◌-◌, ◌*◌, eqb, length, get_or, Option, Some, None}
 use Rattle.probe.specs.Cells.{readings, spot_at}
 use Rattle.types.specs.Units.{units_in}
 use Rattle.numbers.specs.Numbers.{Cell, Row, rows, number_of}
 use Rattle.directory.specs.Cells.{cells_in, position_in}
+use Rattle.directory.specs.declared.cells.Place.{Place}
 
 -- Where the directory begins.
 unfoldable pub base_of : ℕ → ℕ → ℕ
@@ -38,6 +39,11 @@ no_cell = record { spot = 0; word = 0 }
 -- The position among the rows of cell i of a page.
 unfoldable pub position_of : ℕ → ℕ → List ℕ → ℕ → ℕ → ℕ
 position_of w n s page i = position_in (base_of w n) s page i
+
+-- The position of the row at a place, or, where there is none, of the end.
+unfoldable pub position_or_end : ℕ → ℕ → List ℕ → Option Place → ℕ
+position_or_end w n s None = length (held w n s)
+position_or_end w n s (Some p) = position_of w n s p.page p.cell
 
 -- The word at which the content of the row at a position begins.
 unfoldable pub content_of : ℕ → ℕ → List ℕ → ℕ → ℕ

@@ -1,5 +1,5 @@
 -- Rule 5 for a store's words, whatever its rows mean: the tests that a scan makes, and the whole of them (`Valid`, by the laws of Scanning).
-use Rattle.std.specs.Prelude.{Bool, true, cond, ◌&&◌, not, List, ℕ, zero, suc, ◌+◌, ◌-◌, ◌*◌, leb, ltb, eqb, length, get_or, take, drop}
+use Rattle.std.specs.Prelude.{Bool, true, cond, ◌&&◌, not, List, ℕ, zero, suc, ◌+◌, ◌-◌, ◌*◌, leb, ltb, eqb, length, get_or, take, drop, Option, Some, None}
 use Rattle.types.specs.Units.{units_in}
 use Rattle.moves.specs.Moves.{all_zero}
 use Rattle.numbers.specs.Numbers.{rank_of, scans}
@@ -38,6 +38,7 @@ valid_test w parted n s =
 unfoldable pub is_store : ℕ → Bool → List ℕ → Bool
 is_store w parted s = cond (eqb (units_in (length s)) 0) true (valid_test w parted (units_in (length s)) s)
 
--- What a scan on its way knows: the rank that the next cell's must be below, that of the cell before it, which is at `last`, 0 if there is none.
-unfoldable pub limit_at : List ℕ → ℕ → ℕ → ℕ
-limit_at s last at = cond (eqb last 0) (suc (rank_of (cell_at s at))) (rank_of (cell_at s last))
+-- What a scan on its way knows: the rank that the next cell's must be below, that of the cell before it, if there is one.
+unfoldable pub limit_at : List ℕ → Option ℕ → ℕ → ℕ
+limit_at s None at = suc (rank_of (cell_at s at))
+limit_at s (Some last) at = rank_of (cell_at s last)

@@ -1,11 +1,11 @@
 // Payloads put to use and given up, and the row that a payload belongs to.
-ghost use Rattle.std.specs.Prelude.{◌≡◌, ◌+◌, ◌*◌, ◌%◌, ◌≤◌, ◌<◌, length, get_or};
+ghost use Rattle.std.specs.Prelude.{◌≡◌, ltb, ◌+◌, ◌*◌, ◌%◌, ◌≤◌, ◌<◌, length, get_or};
 ghost use Rattle.store.specs.Held.{base_of};
 ghost use Rattle.store.specs.Valid.{Valid, There};
 ghost use Rattle.store.specs.Payloads.{PayloadOpened, Dropped};
 
-use crate::read::{cell_after, find_place, next, number_at};
-use directory::search::Spot;
+use crate::read::Rows;
+use directory::cells::Place;
 use moves::clear;
 use probe::pair;
 
@@ -35,26 +35,21 @@ pub fn drop_payload(s: &mut [u32], from: usize, width: usize, l: u32)
 }
 
 // The cell that names payload l: one of those with the spot that the payload carries.
-pub fn owner_of(s: &[u32], n: usize, width: usize, parted: bool, l: u32) -> Spot
-    requires valid { Valid width parted n s.now }
+pub fn owner_of<const WIDTH: usize, const PARTS: usize>(s: &[u32], n: usize, l: u32) -> Place
+    requires valid { Valid WIDTH (ltb 0 PARTS) n s.now }
     requires used { l < get_or s.now 0 0 }
     requires some { 0 < l }
-    ensures there { There width n s.now result.page result.cell }
-    ensures owns { get_or s.now (base_of width n + 97 * result.page + 1 + 3 * result.cell + 2) 0 % 65536 ≡ l }
+    ensures there { There WIDTH n s.now result.page result.cell }
+    ensures owns { get_or s.now (base_of WIDTH n + 97 * result.page + 1 + 3 * result.cell + 2) 0 % 65536 ≡ l }
 {
-    let y = pair(s, 6 + width * (l as usize));
-    let p = find_place(s, n, width, parted, y);
-    let c = cell_after(s, n, width, parted, p.page, p.cell);
-    let mut page = c.page;
-    let mut cell = c.cell;
-    while number_at(s, n, width, parted, page, cell) != l {
-        let d = next(s, n, width, parted, page, cell);
-        page = d.page;
-        cell = d.cell;
+    let rows: Rows<WIDTH, PARTS> = Rows { words: s, units: n };
+    let y = pair(s, 6 + WIDTH * (l as usize));
+    let mut at = rows.cell_after(rows.find_place(y));
+    while let Some(p) = at {
+        if rows.number_at(p) == l {
+            return p;
+        }
+        at = rows.next(p);
     }
-    Spot {
-        page: page,
-        cell: cell,
-        is: true,
-    }
+    unreachable!()
 }

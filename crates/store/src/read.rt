@@ -1,142 +1,125 @@
-// Places among the rows of a store, and what is read there. `width`: the words of a payload; `parted`: whether its first word of content is a part.
-ghost use Rattle.std.specs.Prelude.{◌≡◌, true, suc, ◌+◌, ◌*◌, ◌/◌, ◌%◌, ◌≤◌, ◌<◌, ltb, length, get_or};
+// A store that is read: places among its rows, and what stands there.
+ghost use Rattle.std.specs.Prelude.{◌≡◌, IfSome, is_some, suc, ◌+◌, ◌*◌, ◌/◌, ◌%◌, ◌≤◌, ◌<◌, ltb, length, get_or};
 ghost use Rattle.probe.specs.Cells.{count_above};
-ghost use Rattle.types.specs.Units.{units_in};
-ghost use Rattle.store.specs.Held.{base_of, held, row_spots, no_row, position_of, content_of};
+ghost use Rattle.numbers.specs.Numbers.{props};
+ghost use Rattle.store.specs.Held.{base_of, held, row_spots, no_row, position_of, position_or_end, content_of};
 ghost use Rattle.store.specs.Valid.{Valid, Stands, There};
 
+use directory::cells::Place;
 use directory::search;
-use directory::search::Spot;
-use probe::pair;
+use probe::{key_of, pair, place_of};
 
-// How many units a store has.
-pub fn units(s: &[u32]) -> usize
-    ensures units { result ≡ units_in (length s.now) }
-{
-    let n = s.len() / 32;
-    if 4096 < n {
-        return 4096;
+// The words of a store. `WIDTH`: the words of a payload; `PARTS`: 1 where the first word of its content is a part, and a spot may have several rows.
+// Kept: `PARTS` is a number, since a struct with a ghost field can have no `bool` as a const parameter (the check says so).
+#[derive(Clone, Copy)]
+pub struct Rows<'a, const WIDTH: usize, const PARTS: usize> {
+    pub words: &'a [u32],
+    pub units: usize,
+    ghost valid: { Valid WIDTH (ltb 0 PARTS) units words.now } by { Prim.hlevel props },
+}
+
+impl<'a, const WIDTH: usize, const PARTS: usize> Rows<'a, WIDTH, PARTS> {
+    // How many units are held.
+    pub fn units_held(self) -> usize
+        ensures held { result ≡ length (held WIDTH self.entry.units self.entry.words.now) }
+        ensures few { result ≤ self.entry.units }
+    {
+        search::word(self.words, 0)
     }
-    n
-}
 
-// How many units are held.
-pub fn units_held(s: &[u32], n: usize, width: usize, parted: bool) -> usize
-    requires valid { Valid width parted n s.now }
-    ensures held { result ≡ length (held width n s.now) }
-    ensures few { result ≤ n }
-{
-    search::word(s, 0)
-}
+    // The place after all rows whose spots are above y and before all others.
+    #[inline]
+    pub fn find_place(self, y: u64) -> Place
+        ensures stands { Stands WIDTH self.entry.units self.entry.words.now result.page result.cell }
+        ensures place { position_of WIDTH self.entry.units self.entry.words.now result.page result.cell ≡ count_above y (row_spots (held WIDTH self.entry.units self.entry.words.now)) }
+    {
+        search::find_place(self.words, 6 + WIDTH * self.units, self.units, y)
+    }
 
-// The place after all rows whose spots are above y and before all others. Where `is` is true there is a row.
-pub fn find_place(s: &[u32], n: usize, width: usize, parted: bool, y: u64) -> Spot
-    requires valid { Valid width parted n s.now }
-    ensures stands { Stands width n s.now result.page result.cell }
-    ensures place { position_of width n s.now result.page result.cell ≡ count_above y (row_spots (held width n s.now)) }
-    ensures there { result.is ≡ true → There width n s.now result.page result.cell }
-{
-    search::find_place(s, 6 + width * n, n, y)
-}
+    // The first row at or after a place, if there is one, as a place of the same position.
+    #[inline]
+    pub fn cell_after(self, at: Place) -> Option<Place>
+        requires stands { Stands WIDTH self.units self.words.now at.page at.cell }
+        ensures there { IfSome result (λ p. There WIDTH self.entry.units self.entry.words.now p.page p.cell) }
+        ensures place { position_or_end WIDTH self.entry.units self.entry.words.now result ≡ position_of WIDTH self.entry.units self.entry.words.now at.page at.cell }
+        ensures some { is_some result ≡ ltb (position_of WIDTH self.entry.units self.entry.words.now at.page at.cell) (length (held WIDTH self.entry.units self.entry.words.now)) }
+    {
+        search::cell_after(self.words, 6 + WIDTH * self.units, self.units, at)
+    }
 
-// The first row at or after a place, as a place of the same position; `is` is false where there is none.
-pub fn cell_after(s: &[u32], n: usize, width: usize, parted: bool, page: usize, cell: usize) -> Spot
-    requires valid { Valid width parted n s.now }
-    requires stands { Stands width n s.now page cell }
-    ensures stands { Stands width n s.now result.page result.cell }
-    ensures place { position_of width n s.now result.page result.cell ≡ position_of width n s.now page cell }
-    ensures is { result.is ≡ ltb (position_of width n s.now page cell) (length (held width n s.now)) }
-    ensures there { result.is ≡ true → There width n s.now result.page result.cell }
-{
-    search::cell_after(s, 6 + width * n, n, page, cell)
-}
+    // The row after a row, if there is one.
+    #[inline]
+    pub fn next(self, at: Place) -> Option<Place>
+        requires there { There WIDTH self.units self.words.now at.page at.cell }
+        ensures there { IfSome result (λ p. There WIDTH self.entry.units self.entry.words.now p.page p.cell) }
+        ensures place { position_or_end WIDTH self.entry.units self.entry.words.now result ≡ suc (position_of WIDTH self.entry.units self.entry.words.now at.page at.cell) }
+        ensures some { is_some result ≡ ltb (suc (position_of WIDTH self.entry.units self.entry.words.now at.page at.cell)) (length (held WIDTH self.entry.units self.entry.words.now)) }
+    {
+        search::next(self.words, 6 + WIDTH * self.units, self.units, at)
+    }
 
-// The row after a row.
-pub fn next(s: &[u32], n: usize, width: usize, parted: bool, page: usize, cell: usize) -> Spot
-    requires valid { Valid width parted n s.now }
-    requires there { There width n s.now page cell }
-    ensures stands { Stands width n s.now result.page result.cell }
-    ensures place { position_of width n s.now result.page result.cell ≡ suc (position_of width n s.now page cell) }
-    ensures is { result.is ≡ ltb (suc (position_of width n s.now page cell)) (length (held width n s.now)) }
-    ensures there { result.is ≡ true → There width n s.now result.page result.cell }
-{
-    search::next(s, 6 + width * n, n, page, cell)
-}
+    // The word at which a row's cell begins.
+    #[inline]
+    pub fn cell_at(self, at: Place) -> usize
+        requires there { There WIDTH self.units self.words.now at.page at.cell }
+        ensures word { result ≡ base_of WIDTH self.entry.units + 97 * at.page + 1 + 3 * at.cell }
+        ensures inside { result + 2 < length self.entry.words.now }
+    {
+        6 + WIDTH * self.units + 97 * at.page + 1 + 3 * at.cell
+    }
 
-// The word at which a row's cell begins.
-pub fn cell_at(s: &[u32], n: usize, width: usize, parted: bool, page: usize, cell: usize) -> usize
-    requires valid { Valid width parted n s.now }
-    requires there { There width n s.now page cell }
-    ensures word { result ≡ base_of width n + 97 * page + 1 + 3 * cell }
-    ensures inside { result + 2 < length s.now }
-{
-    6 + width * n + 97 * page + 1 + 3 * cell
-}
+    // Place and key of a row as one value.
+    #[inline]
+    pub fn spot_at(self, at: Place) -> u64
+        requires there { There WIDTH self.units self.words.now at.page at.cell }
+        ensures spot { result ≡ (get_or (held WIDTH self.entry.units self.entry.words.now) (position_of WIDTH self.entry.units self.entry.words.now at.page at.cell) no_row).spot }
+    {
+        pair(self.words, self.cell_at(at))
+    }
 
-// Place and key of a row as one value.
-pub fn spot_at(s: &[u32], n: usize, width: usize, parted: bool, page: usize, cell: usize) -> u64
-    requires valid { Valid width parted n s.now }
-    requires there { There width n s.now page cell }
-    ensures spot { result ≡ (get_or (held width n s.now) (position_of width n s.now page cell) no_row).spot }
-{
-    let a = cell_at(s, n, width, parted, page, cell);
-    pair(s, a)
-}
+    #[inline]
+    pub fn place_at(self, at: Place) -> u32
+        requires there { There WIDTH self.units self.words.now at.page at.cell }
+        ensures place { result ≡ (get_or (held WIDTH self.entry.units self.entry.words.now) (position_of WIDTH self.entry.units self.entry.words.now at.page at.cell) no_row).spot % 4294967296 }
+    {
+        place_of(self.words, self.cell_at(at))
+    }
 
-pub fn place_at(s: &[u32], n: usize, width: usize, parted: bool, page: usize, cell: usize) -> u32
-    requires valid { Valid width parted n s.now }
-    requires there { There width n s.now page cell }
-    ensures place { result ≡ (get_or (held width n s.now) (position_of width n s.now page cell) no_row).spot % 4294967296 }
-{
-    let a = cell_at(s, n, width, parted, page, cell);
-    s[a]
-}
+    #[inline]
+    pub fn key_at(self, at: Place) -> u32
+        requires there { There WIDTH self.units self.words.now at.page at.cell }
+        ensures key { result ≡ (get_or (held WIDTH self.entry.units self.entry.words.now) (position_of WIDTH self.entry.units self.entry.words.now at.page at.cell) no_row).spot / 4294967296 }
+    {
+        key_of(self.words, self.cell_at(at))
+    }
 
-pub fn key_at(s: &[u32], n: usize, width: usize, parted: bool, page: usize, cell: usize) -> u32
-    requires valid { Valid width parted n s.now }
-    requires there { There width n s.now page cell }
-    ensures key { result ≡ (get_or (held width n s.now) (position_of width n s.now page cell) no_row).spot / 4294967296 }
-{
-    let a = cell_at(s, n, width, parted, page, cell);
-    s[a + 1]
-}
+    #[inline]
+    pub fn marks_at(self, at: Place) -> u32
+        requires there { There WIDTH self.units self.words.now at.page at.cell }
+        ensures marks { result ≡ (get_or (held WIDTH self.entry.units self.entry.words.now) (position_of WIDTH self.entry.units self.entry.words.now at.page at.cell) no_row).marks }
+        ensures small { result < 65536 }
+    {
+        self.words[self.cell_at(at) + 2] / 65536
+    }
 
-pub fn marks_at(s: &[u32], n: usize, width: usize, parted: bool, page: usize, cell: usize) -> u32
-    requires valid { Valid width parted n s.now }
-    requires there { There width n s.now page cell }
-    ensures marks { result ≡ (get_or (held width n s.now) (position_of width n s.now page cell) no_row).marks }
-    ensures small { result < 65536 }
-{
-    let a = cell_at(s, n, width, parted, page, cell);
-    s[a + 2] / 65536
-}
+    // The number of the payload that a row's cell names.
+    #[inline]
+    pub fn number_at(self, at: Place) -> u32
+        requires there { There WIDTH self.units self.words.now at.page at.cell }
+        ensures content { 6 + WIDTH * result + 2 ≡ content_of WIDTH self.entry.units self.entry.words.now (position_of WIDTH self.entry.units self.entry.words.now at.page at.cell) }
+        ensures word { result ≡ get_or self.entry.words.now (base_of WIDTH self.entry.units + 97 * at.page + 1 + 3 * at.cell + 2) 0 % 65536 }
+        ensures used { result < get_or self.entry.words.now 0 0 }
+        ensures inside { 6 + WIDTH * result + WIDTH ≤ length self.entry.words.now }
+    {
+        self.words[self.cell_at(at) + 2] % 65536
+    }
 
-// The number of the payload that a row's cell names.
-pub fn number_at(s: &[u32], n: usize, width: usize, parted: bool, page: usize, cell: usize) -> u32
-    requires valid { Valid width parted n s.now }
-    requires there { There width n s.now page cell }
-    ensures content { 6 + width * result + 2 ≡ content_of width n s.now (position_of width n s.now page cell) }
-    ensures word { result ≡ get_or s.now (base_of width n + 97 * page + 1 + 3 * cell + 2) 0 % 65536 }
-    ensures used { result < get_or s.now 0 0 }
-    ensures inside { 6 + width * result + width ≤ length s.now }
-{
-    let a = cell_at(s, n, width, parted, page, cell);
-    s[a + 2] % 65536
-}
-
-// The word at which a row's content begins.
-pub fn content_at(
-    s: &[u32],
-    n: usize,
-    width: usize,
-    parted: bool,
-    page: usize,
-    cell: usize,
-) -> usize
-    requires valid { Valid width parted n s.now }
-    requires there { There width n s.now page cell }
-    ensures content { result ≡ content_of width n s.now (position_of width n s.now page cell) }
-{
-    let q = number_at(s, n, width, parted, page, cell);
-    6 + width * (q as usize) + 2
+    // The word at which a row's content begins.
+    #[inline]
+    pub fn content_at(self, at: Place) -> usize
+        requires there { There WIDTH self.units self.words.now at.page at.cell }
+        ensures content { result ≡ content_of WIDTH self.entry.units self.entry.words.now (position_of WIDTH self.entry.units self.entry.words.now at.page at.cell) }
+    {
+        6 + WIDTH * (self.number_at(at) as usize) + 2
+    }
 }

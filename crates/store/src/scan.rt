@@ -1,6 +1,6 @@
 // Whether words are a store (rule 5), in one pass.
 ghost use Rattle.std.specs.Prelude.{◌≡◌, cond, ◌&&◌, ◌+◌, ◌-◌, ◌*◌, ◌/◌, ◌≤◌, ◌<◌, ltb, eqb, length, get_or};
-ghost use Rattle.types.specs.Units.{units_in};
+ghost use Rattle.std.specs.Option.{ForSome};
 ghost use Rattle.numbers.specs.Numbers.{rank_of, number_of, fine, scans};
 ghost use Rattle.directory.specs.Cells.{cell_at, page_at};
 ghost use Rattle.directory.specs.Directory.{room_of, most_pages};
@@ -10,17 +10,7 @@ ghost use Rattle.store.specs.Scan.{page_test, cells_test, valid_test, is_store, 
 use directory::search::{room, word};
 use moves::all_zero;
 use probe::pair;
-
-// How many units a store has.
-pub fn units_in(s: &[u32]) -> usize
-    ensures units { result ≡ units_in (length s.now) }
-{
-    let n = s.len() / 32;
-    if 4096 < n {
-        return 4096;
-    }
-    n
-}
+use types::units::units;
 
 // The most pages of a directory of n units.
 fn most_pages(n: usize) -> usize
@@ -33,34 +23,34 @@ fn most_pages(n: usize) -> usize
 }
 
 // The part that a payload carries.
-fn carried_part(s: &[u32], p: usize, parted: bool) -> usize
+fn carried_part<const PARTS: usize>(s: &[u32], p: usize) -> usize
     requires inside { p + 3 ≤ length s.now }
-    ensures part { result ≡ cond parted (get_or s.now (p + 2) 0) 0 }
+    ensures part { result ≡ cond (ltb 0 PARTS) (get_or s.now (p + 2) 0) 0 }
     ensures small { result < 4294967296 }
 {
-    if parted {
+    if 0 < PARTS {
         return word(s, p + 2);
     }
     0
 }
 
 // Whether the payload of a cell is in use and carries the cell's rank.
-fn is_named(s: &[u32], at: usize, width: usize, parted: bool) -> bool
+fn is_named<const WIDTH: usize, const PARTS: usize>(s: &[u32], at: usize) -> bool
     requires inside { at + 3 ≤ length s.now }
-    requires wide { 3 ≤ width }
-    requires payloads { 6 + width * get_or s.now 0 0 ≤ length s.now }
-    ensures named { result ≡ (ltb (number_of (cell_at s.now at)) (get_or s.now 0 0) && eqb (carried_at width parted s.now (number_of (cell_at s.now at))) (rank_of (cell_at s.now at))) }
+    requires wide { 3 ≤ WIDTH }
+    requires payloads { 6 + WIDTH * get_or s.now 0 0 ≤ length s.now }
+    ensures named { result ≡ (ltb (number_of (cell_at s.now at)) (get_or s.now 0 0) && eqb (carried_at WIDTH (ltb 0 PARTS) s.now (number_of (cell_at s.now at))) (rank_of (cell_at s.now at))) }
 {
     let w = word(s, at + 2);
     let q = w % 65536;
     if word(s, 0) <= q {
         return false;
     }
-    let p = 6 + width * q;
+    let p = 6 + WIDTH * q;
     if pair(s, p) != pair(s, at) {
         return false;
     }
-    carried_part(s, p, parted) == w / 16777216
+    carried_part::<PARTS>(s, p) == w / 16777216
 }
 
 // Whether the rank of a cell is below that of another.
@@ -77,41 +67,47 @@ fn falls(s: &[u32], last: usize, at: usize) -> bool
     word(s, at + 2) / 16777216 < word(s, last + 2) / 16777216
 }
 
-// Whether a cell passes after the one at `last`, or, where that is 0, as the first.
-fn is_fine(s: &[u32], last: usize, at: usize, width: usize, parted: bool) -> bool
-    requires before { last + 3 ≤ length s.now }
+// Whether a cell passes after the one at `last`, or as the first.
+fn is_fine<const WIDTH: usize, const PARTS: usize>(
+    s: &[u32],
+    last: Option<usize>,
+    at: usize,
+) -> bool
+    requires before { ForSome last (λ l. l + 3 ≤ length s.now) }
     requires inside { at + 3 ≤ length s.now }
-    requires wide { 3 ≤ width }
-    requires payloads { 6 + width * get_or s.now 0 0 ≤ length s.now }
-    ensures fine { result ≡ fine (carried_at width parted s.now) (get_or s.now 0 0) (limit_at s.now last at) (cell_at s.now at) }
+    requires wide { 3 ≤ WIDTH }
+    requires payloads { 6 + WIDTH * get_or s.now 0 0 ≤ length s.now }
+    ensures fine { result ≡ fine (carried_at WIDTH (ltb 0 PARTS) s.now) (get_or s.now 0 0) (limit_at s.now last at) (cell_at s.now at) }
 {
-    if !is_named(s, at, width, parted) {
+    if !is_named::<WIDTH, PARTS>(s, at) {
         return false;
     }
-    if last == 0 {
-        return true;
+    match last {
+        None => true,
+        Some(last) => falls(s, last, at),
     }
-    falls(s, last, at)
 }
 
 // Whether the cells of the page at a word pass, one after the other.
-fn cells_pass(s: &[u32], before: usize, a: usize, width: usize, parted: bool) -> bool
-    requires before { before + 3 ≤ length s.now }
+fn cells_pass<const WIDTH: usize, const PARTS: usize>(
+    s: &[u32],
+    before: Option<usize>,
+    a: usize,
+) -> bool
+    requires before { ForSome before (λ l. l + 3 ≤ length s.now) }
     requires inside { a + 1 + 3 * get_or s.now a 0 ≤ length s.now }
-    requires wide { 3 ≤ width }
-    requires payloads { 6 + width * get_or s.now 0 0 ≤ length s.now }
-    ensures cells { result ≡ scans (carried_at width parted s.now) (get_or s.now 0 0) (limit_at s.now before (a + 1)) (page_at s.now a) }
+    requires wide { 3 ≤ WIDTH }
+    requires payloads { 6 + WIDTH * get_or s.now 0 0 ≤ length s.now }
+    ensures cells { result ≡ scans (carried_at WIDTH (ltb 0 PARTS) s.now) (get_or s.now 0 0) (limit_at s.now before (a + 1)) (page_at s.now a) }
 {
     let c = word(s, a);
     let mut last = before;
-    let mut j = 0;
-    while j < c {
+    for j in 0..c {
         let at = a + 1 + 3 * j;
-        if !is_fine(s, last, at, width, parted) {
+        if !is_fine::<WIDTH, PARTS>(s, last, at) {
             return false;
         }
-        last = at;
-        j += 1;
+        last = Some(at);
     }
     true
 }
@@ -152,42 +148,40 @@ fn page_passes(s: &[u32], base: usize, n: usize, k: usize) -> bool
 }
 
 // Whether the pages pass, their cells too, and there are as many cells as payloads in use.
-fn pages_pass(s: &[u32], base: usize, n: usize, width: usize, parted: bool) -> bool
-    requires wide { 3 ≤ width }
-    requires base { base ≡ base_of width n }
+fn pages_pass<const WIDTH: usize, const PARTS: usize>(s: &[u32], base: usize, n: usize) -> bool
+    requires wide { 3 ≤ WIDTH }
+    requires base { base ≡ base_of WIDTH n }
     requires space { base + 97 * (most_pages n - 1) + 1 + 3 * room_of n ≤ 32 * n }
     requires size { 32 * n ≤ length s.now }
     requires pages { get_or s.now 1 0 < most_pages n }
-    requires payloads { 6 + width * get_or s.now 0 0 ≤ length s.now }
-    ensures cells { result ≡ cells_test width parted n s.now }
+    requires payloads { 6 + WIDTH * get_or s.now 0 0 ≤ length s.now }
+    ensures cells { result ≡ cells_test WIDTH (ltb 0 PARTS) n s.now }
 {
     let m = word(s, 1);
-    let mut last = 0;
+    let mut last = None;
     let mut sum = 0;
-    let mut k = 0;
-    while k <= m {
+    for k in 0..m + 1 {
         if !page_passes(s, base, n, k) {
             return false;
         }
         let a = base + 97 * k;
-        if !cells_pass(s, last, a, width, parted) {
+        if !cells_pass::<WIDTH, PARTS>(s, last, a) {
             return false;
         }
         let c = word(s, a);
-        last = a + 1 + 3 * c - 3;
+        last = Some(a + 1 + 3 * c - 3);
         sum += c;
-        k += 1;
     }
     sum == word(s, 0)
 }
 
 // Whether the words of n units are a store.
-fn is_valid(s: &[u32], n: usize, width: usize, parted: bool) -> bool
-    requires wide { 3 ≤ width }
-    requires narrow { width ≤ 22 }
+fn is_valid<const WIDTH: usize, const PARTS: usize>(s: &[u32], n: usize) -> bool
+    requires wide { 3 ≤ WIDTH }
+    requires narrow { WIDTH ≤ 22 }
     requires some { 0 < n }
     requires size { 32 * n ≤ length s.now }
-    ensures valid { result ≡ valid_test width parted n s.now }
+    ensures valid { result ≡ valid_test WIDTH (ltb 0 PARTS) n s.now }
 {
     let h = word(s, 0);
     if n < h {
@@ -199,22 +193,22 @@ fn is_valid(s: &[u32], n: usize, width: usize, parted: bool) -> bool
     if !all_zero(s, 2, 6) {
         return false;
     }
-    let base = 6 + width * n;
-    if !all_zero(s, 6 + width * h, base) {
+    let base = 6 + WIDTH * n;
+    if !all_zero(s, 6 + WIDTH * h, base) {
         return false;
     }
-    pages_pass(s, base, n, width, parted)
+    pages_pass::<WIDTH, PARTS>(s, base, n)
 }
 
-// Whether words are a store: payloads of `width` words, in a store of parts with the part as their third.
-pub fn is_store(s: &[u32], width: usize, parted: bool) -> bool
-    requires wide { 3 ≤ width }
-    requires narrow { width ≤ 22 }
-    ensures valid { result ≡ is_store width parted s.now }
+// Whether words are a store: payloads of `WIDTH` words, in a store of parts with the part as their third.
+pub fn is_store<const WIDTH: usize, const PARTS: usize>(s: &[u32]) -> bool
+    requires wide { 3 ≤ WIDTH }
+    requires narrow { WIDTH ≤ 22 }
+    ensures valid { result ≡ is_store WIDTH (ltb 0 PARTS) s.now }
 {
-    let n = units_in(s);
+    let n = units(s);
     if n == 0 {
         return true;
     }
-    is_valid(s, n, width, parted)
+    is_valid::<WIDTH, PARTS>(s, n)
 }

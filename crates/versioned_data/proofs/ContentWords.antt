@@ -12,7 +12,7 @@ use Rattle.number.specs.Number.{number_of}
 use Rattle.number.specs.Words.{value_of_words}
 use Rattle.number.specs.declared.Number.{Number}
 use Rattle.delta.specs.Delta.{number_at}
-use Rattle.delta.specs.Op.{op_at}
+use Rattle.delta.specs.Record.{op_at}
 use Rattle.delta.specs.declared.DeltaOp.{DeltaOp}
 use Rattle.types.specs.Value.{value_width, value_at}
 use Rattle.probe.specs.Cells.{readings}

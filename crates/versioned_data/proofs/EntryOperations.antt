@@ -34,8 +34,8 @@ use Rattle.versioned_data.specs.Found.{position_at, row_found, IsRow, Here, Gone
 use Rattle.versioned_data.specs.Puts.{delta_entry}
 use Rattle.versioned_data.specs.Base.{over_base, base_at, base_ruling, may_put}
 use Rattle.versioned_data.specs.Edited.{Edited}
-use Rattle.versioned_data.specs.declared.find.Found.{Found}
-use Rattle.versioned_data.specs.declared.find.Found.TheVariants.{There, Absent}
+use Rattle.std.specs.Prelude.{Result, Ok, Err}
+use Rattle.directory.specs.declared.cells.Place.{Place}
 use Rattle.versioned_data.specs.declared.base.Base.{Base}
 use Rattle.versioned_data.specs.declared.base.Base.TheVariants.{Keep, Set, Differs}
 use Rattle.versioned_data.proofs.EntryRows.{spot_place, ok_payload, ok_cell}
@@ -53,41 +53,41 @@ small_of q index e h = omega arith
 
 -- ---- what was found
 
-module _ (s : List ℕ) (k p : ℕ) (f : Found) (t : FoundIn s k p f) (page i : ℕ) where
-  pub found_here : f ≡ There page i → Here s k p page i
+module _ (s : List ℕ) (k p : ℕ) (f : Result Place Place) (t : FoundIn s k p f) (c : Place) where
+  pub found_here : f ≡ Ok c → Here s k p c.page c.cell
   unfolding FoundIn
   found_here e = rw e at t
 
-  pub found_gone : f ≡ Absent page i → Gone s k p page i
+  pub found_gone : f ≡ Err c → Gone s k p c.page c.cell
   unfolding FoundIn
   found_gone e = rw e at t
 
-  pub found_row_lem : f ≡ There page i → IsRow s page i
+  pub found_row_lem : f ≡ Ok c → IsRow s c.page c.cell
   found_row_lem e = (found_here e).row
 
-pub row_in : (s : List ℕ) (k p : ℕ) (f : Found) → FoundIn s k p f → RowIn s f
+pub row_in : (s : List ℕ) (k p : ℕ) (f : Result Place Place) → FoundIn s k p f → RowIn s f
 unfolding FoundIn RowIn
-row_in s k p (There page i) t = t.row
-row_in s k p (Absent page i) t = tt
+row_in s k p (Ok c) t = t.row
+row_in s k p (Err c) t = tt
 
-pub is_row : (s : List ℕ) (f : Found) → RowIn s f → (page i : ℕ) → f ≡ There page i → IsRow s page i
+pub is_row : (s : List ℕ) (f : Result Place Place) → RowIn s f → (c : Place) → f ≡ Ok c → IsRow s c.page c.cell
 unfolding RowIn
-is_row s f t page i e = rw e at t
+is_row s f t c e = rw e at t
 
-module _ (s : List ℕ) (k p : ℕ) (f : Found) (page i : ℕ) (e : Entry) where
-  pub put_there : f ≡ There page i → (after : List ℕ) → PutOver s page i e after → Put s k p f e 0 after
+module _ (s : List ℕ) (k p : ℕ) (f : Result Place Place) (c : Place) (e : Entry) where
+  pub put_there : f ≡ Ok c → (after : List ℕ) → PutOver s c.page c.cell e after → Put s k p f e 0 after
   unfolding Put
   put_there h after w = rw h (refl, w)
 
-  pub put_absent : f ≡ Absent page i → (r : ℕ) (after : List ℕ) → PutIn s k p page i e r after → Put s k p f e r after
+  pub put_absent : f ≡ Err c → (r : ℕ) (after : List ℕ) → PutIn s k p c.page c.cell e r after → Put s k p f e r after
   unfolding Put
   put_absent h r after w = rw h w
 
 -- the code has the shifted index as the word `q`
-pub found_at : (s : List ℕ) (k q p : ℕ) (f : Found) → q ≡ p → FoundIn s k q f → FoundIn s k p f
+pub found_at : (s : List ℕ) (k q p : ℕ) (f : Result Place Place) → q ≡ p → FoundIn s k q f → FoundIn s k p f
 found_at s k q p f e t = rw e at t
 
-pub put_at : (s : List ℕ) (k q p : ℕ) (f : Found) (e : Entry) (r : ℕ) (after : List ℕ) → q ≡ p → Put s k q f e r after → Put s k p f e r after
+pub put_at : (s : List ℕ) (k q p : ℕ) (f : Result Place Place) (e : Entry) (r : ℕ) (after : List ℕ) → q ≡ p → Put s k q f e r after → Put s k p f e r after
 put_at s k q p f e r after h t = rw h at t
 
 -- ---- what a row's words tell a write, and a base
@@ -104,47 +104,47 @@ payload_long u h =
     let e : Entry = (entry_of u).held in
     ap length (ok_payload u h) ∙ length_padded (body_of e.cell) (body_long (entry_of u).place e.estimate e.cell (ok_cell u h))
 
-module _ (s : List ℕ) (f : Found) (page i : ℕ) where
-  pub may_absent : (incarnation : ℕ) → f ≡ Absent page i → true ≡ may_put incarnation (found_row s f)
+module _ (s : List ℕ) (f : Result Place Place) (c : Place) where
+  pub may_absent : (incarnation : ℕ) → f ≡ Err c → true ≡ may_put incarnation (found_row s f)
   unfolding may_put found_row
   may_absent incarnation e = rw e
 
-  pub base_absent : (new : List ℕ) → f ≡ Absent page i → Set ≡ base_at new (found_row s f)
+  pub base_absent : (new : List ℕ) → f ≡ Err c → Set ≡ base_at new (found_row s f)
   unfolding base_at found_row
   base_absent new e = rw e
 
-  module _ (v : data_valid s ≡ true) (n : ℕ) (size : n ≡ units_in (length s)) (t : IsRow s page i) (e : f ≡ There page i) where
-    module _ (m : ℕ) (marks : m ≡ (get_or (held 22 n s) (position_of 22 n s page i) no_row).marks) (incarnation : ℕ) where
-      marks_are : m ≡ (row_found s page i).marks
-      marks_are = marks ∙ ap (λ (u : StoreRow). u.marks) (row_is s v n size page i t)
+  module _ (v : data_valid s ≡ true) (n : ℕ) (size : n ≡ units_in (length s)) (t : IsRow s c.page c.cell) (e : f ≡ Ok c) where
+    module _ (m : ℕ) (marks : m ≡ (get_or (held 22 n s) (position_of 22 n s c.page c.cell) no_row).marks) (incarnation : ℕ) where
+      marks_are : m ≡ (row_found s c.page c.cell).marks
+      marks_are = marks ∙ ap (λ (u : StoreRow). u.marks) (row_is s v n size c.page c.cell t)
 
       pub may_delta : (m % 4 ≡ 0 → ⊥) → true ≡ may_put incarnation (found_row s f)
       unfolding may_put found_row
       may_delta h = rw (e, ← marks_are, ne_eqb (m % 4) 0 h)
 
-      pub may_higher : m % 4 ≡ 0 → (b : ℕ) → b ≡ content_of 22 n s (position_of 22 n s page i) → ltb (get_or s b 0) incarnation ≡ may_put incarnation (found_row s f)
+      pub may_higher : m % 4 ≡ 0 → (b : ℕ) → b ≡ content_of 22 n s (position_of 22 n s c.page c.cell) → ltb (get_or s b 0) incarnation ≡ may_put incarnation (found_row s f)
       unfolding may_put found_row
       may_higher h b content =
-          let z : b ≡ content_of 22 n s (position_of 22 n s page i) + 0 = omega (arith, content) in
-          let w : get_or s b 0 ≡ get_or (row_found s page i).payload 0 0 = ap (λ (j : ℕ). get_or s j 0) z ∙ row_word s v n size page i t 0 (omega arith) in
+          let z : b ≡ content_of 22 n s (position_of 22 n s c.page c.cell) + 0 = omega (arith, content) in
+          let w : get_or s b 0 ≡ get_or (row_found s c.page c.cell).payload 0 0 = ap (λ (j : ℕ). get_or s j 0) z ∙ row_word s v n size c.page c.cell t 0 (omega arith) in
           rw (e, ← marks_are, h, w)
 
-    module _ (b : ℕ) (content : b ≡ content_of 22 n s (position_of 22 n s page i)) where
+    module _ (b : ℕ) (content : b ≡ content_of 22 n s (position_of 22 n s c.page c.cell)) where
       pub row_content : b + 20 ≤ length s
-      row_content = rw content (row_room s v n size page i t)
+      row_content = rw content (row_room s v n size c.page c.cell t)
 
-      l : length (row_found s page i).payload ≡ 20
-      l = payload_long (row_found s page i) (found_fine s v n size page i t)
+      l : length (row_found s c.page c.cell).payload ≡ 20
+      l = payload_long (row_found s c.page c.cell) (found_fine s v n size c.page c.cell t)
 
       -- the value after the content's first word
-      value_is : value_at (b + 1) s ≡ value_at 1 (row_found s page i).payload
+      value_is : value_at (b + 1) s ≡ value_at 1 (row_found s c.page c.cell).payload
       value_is =
-          ext_get_or 0 (value_at (b + 1) s) (value_at 1 (row_found s page i).payload)
-          (length_value_at s (b + 1) (omega (arith, row_content)) ∙ sym (length_value_at (row_found s page i).payload 1 (omega (arith, l))))
+          ext_get_or 0 (value_at (b + 1) s) (value_at 1 (row_found s c.page c.cell).payload)
+          (length_value_at s (b + 1) (omega (arith, row_content)) ∙ sym (length_value_at (row_found s c.page c.cell).payload 1 (omega (arith, l))))
           (λ j h.
           let g : j < 7 = omega (arith, length_value_at s (b + 1) (omega (arith, row_content))) in
-          let z : b + 1 + j ≡ content_of 22 n s (position_of 22 n s page i) + (1 + j) = omega (arith, content) in
-          get_d_value_at s (b + 1) j g ∙ ap (λ (x : ℕ). get_or s x 0) z ∙ row_word s v n size page i t (1 + j) (omega arith) ∙ sym (get_d_value_at (row_found s page i).payload 1 j g))
+          let z : b + 1 + j ≡ content_of 22 n s (position_of 22 n s c.page c.cell) + (1 + j) = omega (arith, content) in
+          get_d_value_at s (b + 1) j g ∙ ap (λ (x : ℕ). get_or s x 0) z ∙ row_word s v n size c.page c.cell t (1 + j) (omega arith) ∙ sym (get_d_value_at (row_found s c.page c.cell).payload 1 j g))
 
       pub base_there : AreWords s → (q : List ℕ) (at : ℕ) → AreWords q → at + value_width ≤ length q → (old new : ValueWithLayout) →
           old ≡ value_from (value_at (b + 1) s) → new ≡ value_from (value_at at q) → (r : Base) → r ≡ over_base (words_of new) (words_of old) → r ≡ base_at (value_at at q) (found_row s f)
@@ -237,16 +237,16 @@ module _ (s : List ℕ) (v : data_valid s ≡ true) (k p : ℕ) (big : k < 42949
       let u : StoreRow = row_found s page i in
       ap (λ (y : ℕ). fine_cell y (entry_of u).held.estimate (entry_of u).held.cell) (sym place_at) ∙ ok_cell u (here_ok s v k p big small page i t)
 
-may_found : (s : List ℕ) → data_valid s ≡ true → (k p : ℕ) → p < 4294967296 → (incarnation : ℕ) (f : Found) → FoundIn s k p f → may_put incarnation (found_row s f) ≡ may_write incarnation (find k p (entries_in s))
+may_found : (s : List ℕ) → data_valid s ≡ true → (k p : ℕ) → p < 4294967296 → (incarnation : ℕ) (f : Result Place Place) → FoundIn s k p f → may_put incarnation (found_row s f) ≡ may_write incarnation (find k p (entries_in s))
 unfolding FoundIn found_row
-may_found s v k p small incarnation (There page i) t = may_row incarnation (row_found s page i) ∙ ap (may_write incarnation) (sym t.entry)
-may_found s v k p small incarnation (Absent page i) t = may_none incarnation ∙ ap (may_write incarnation) (sym t.entry)
+may_found s v k p small incarnation (Ok c) t = may_row incarnation (row_found s c.page c.cell) ∙ ap (may_write incarnation) (sym t.entry)
+may_found s v k p small incarnation (Err c) t = may_none incarnation ∙ ap (may_write incarnation) (sym t.entry)
 
-base_found : (s : List ℕ) → data_valid s ≡ true → (k : ℕ) → k < 4294967296 → (new : List ℕ) (f : Found) → FoundIn s k 0 f → set_base_value new (find k 0 (entries_in s)) ≡ base_ruling new (base_at new (found_row s f))
+base_found : (s : List ℕ) → data_valid s ≡ true → (k : ℕ) → k < 4294967296 → (new : List ℕ) (f : Result Place Place) → FoundIn s k 0 f → set_base_value new (find k 0 (entries_in s)) ≡ base_ruling new (base_at new (found_row s f))
 unfolding FoundIn found_row
-base_found s v k big new (There page i) t =
-    ap (set_base_value new) t.entry ∙ base_row new (row_found s page i) (here_ok s v k 0 big (omega arith) page i t) (place_at s v k 0 big (omega arith) page i t)
-base_found s v k big new (Absent page i) t = ap (set_base_value new) t.entry ∙ base_none new
+base_found s v k big new (Ok c) t =
+    ap (set_base_value new) t.entry ∙ base_row new (row_found s c.page c.cell) (here_ok s v k 0 big (omega arith) c.page c.cell t) (place_at s v k 0 big (omega arith) c.page c.cell t)
+base_found s v k big new (Err c) t = ap (set_base_value new) t.entry ∙ base_none new
 
 erase_left : (s : List ℕ) → data_valid s ≡ true → (n : ℕ) → n ≡ units_in (length s) → (page i : ℕ) → IsRow s page i → (after : List ℕ) → Left 22 false n (erase_at (position_of 22 n s page i) (held 22 n s)) s after →
     Left 22 false (units_in (length s)) (erase_at (position_at s page i) (rows_in s)) s after
@@ -255,9 +255,9 @@ erase_left s v n size page i t after l =
     let rows : rows_in s ≡ held 22 n s = rw size (rows_here s v t.units) in
     rw (← size, rows) l
 
-module _ (s : List ℕ) (v : data_valid s ≡ true) (k q p : ℕ) (big : k < 4294967296) (small : q < 4294967296) (place : q ≡ p) (f : Found) (found : FoundIn s k q f) where
-  here_p : (page i : ℕ) → f ≡ There page i → Here s k p page i
-  here_p page i e = found_here s k p f (found_at s k q p f place found) page i e
+module _ (s : List ℕ) (v : data_valid s ≡ true) (k q p : ℕ) (big : k < 4294967296) (small : q < 4294967296) (place : q ≡ p) (f : Result Place Place) (found : FoundIn s k q f) where
+  here_p : (c : Place) → f ≡ Ok c → Here s k p c.page c.cell
+  here_p c e = found_here s k p f (found_at s k q p f place found) c e
 
   p_small : p < 4294967296
   p_small = rw (← place) small
@@ -289,37 +289,37 @@ module _ (s : List ℕ) (v : data_valid s ≡ true) (k q p : ℕ) (big : k < 429
           put_edited (write_value incarnation (value_at at w)) (done (write incarnation (value_at at w))) r after (write_may incarnation (value_at at w) (find k p (entries_in s)) b may_is e)
           (write_fine p above incarnation (value_at at w) word (value_fine w at words fits ok) exchanged) put
 
-    module _ (page i : ℕ) where
-      pub mark_refused : f ≡ Absent page i → Edited s k p mark_estimate nothing_there s
+    module _ (c : Place) where
+      pub mark_refused : f ≡ Err c → Edited s k p mark_estimate nothing_there s
       mark_refused e =
-          edited_refused s k p mark_estimate nothing_there (mark_none (find k p (entries_in s)) (found_gone s k p f (found_at s k q p f place found) page i e).entry)
+          edited_refused s k p mark_estimate nothing_there (mark_none (find k p (entries_in s)) (found_gone s k p f (found_at s k q p f place found) c e).entry)
 
-      pub remove_refused : f ≡ Absent page i → Edited s k p remove nothing_there s
+      pub remove_refused : f ≡ Err c → Edited s k p remove nothing_there s
       remove_refused e =
-          edited_refused s k p remove nothing_there (remove_none (find k p (entries_in s)) (found_gone s k p f (found_at s k q p f place found) page i e).entry)
+          edited_refused s k p remove nothing_there (remove_none (find k p (entries_in s)) (found_gone s k p f (found_at s k q p f place found) c e).entry)
 
-      module _ (e : f ≡ There page i) (n : ℕ) (size : n ≡ units_in (length s)) where
-        pub remove_done : (after : List ℕ) → Left 22 false n (erase_at (position_of 22 n s page i) (held 22 n s)) s after → Edited s k p remove 0 after
+      module _ (e : f ≡ Ok c) (n : ℕ) (size : n ≡ units_in (length s)) where
+        pub remove_done : (after : List ℕ) → Left 22 false n (erase_at (position_of 22 n s c.page c.cell) (held 22 n s)) s after → Edited s k p remove 0 after
         remove_done after l =
-            edited_removed s v k p big p_small page i (here_p page i e) remove done_answer after (remove_some (find k p (entries_in s)) (entry_of (row_found s page i)).held (here_p page i e).entry)
-            (erase_left s v n size page i (here_p page i e).row after l)
+            edited_removed s v k p big p_small c.page c.cell (here_p c e) remove done_answer after (remove_some (find k p (entries_in s)) (entry_of (row_found s c.page c.cell)).held (here_p c e).entry)
+            (erase_left s v n size c.page c.cell (here_p c e).row after l)
 
-        pub mark_done : (m : ℕ) → m ≡ (get_or (held 22 n s) (position_of 22 n s page i) no_row).marks → (after : List ℕ) →
-            Left 22 false n (set (held 22 n s) (position_of 22 n s page i) (marked (m % 4 + 4 + 8 * (m / 8)) (get_or (held 22 n s) (position_of 22 n s page i) no_row))) s after →
+        pub mark_done : (m : ℕ) → m ≡ (get_or (held 22 n s) (position_of 22 n s c.page c.cell) no_row).marks → (after : List ℕ) →
+            Left 22 false n (set (held 22 n s) (position_of 22 n s c.page c.cell) (marked (m % 4 + 4 + 8 * (m / 8)) (get_or (held 22 n s) (position_of 22 n s c.page c.cell) no_row))) s after →
             Edited s k p mark_estimate 0 after
         mark_done m marks after l =
-            let u : StoreRow = row_found s page i in
-            let t : IsRow s page i = (here_p page i e).row in
+            let u : StoreRow = row_found s c.page c.cell in
+            let t : IsRow s c.page c.cell = (here_p c e).row in
             let a : Entry = record { cell = (entry_of u).held.cell; estimate = true } in
-            let ok : row_ok u ≡ true = found_fine s v n size page i t in
-            let is : m ≡ u.marks = marks ∙ ap (λ (w : StoreRow). w.marks) (row_is s v n size page i t) in
-            edited_over s v k p big p_small page i (here_p page i e) mark_estimate done_answer a after (mark_some (find k p (entries_in s)) (entry_of u).held (here_p page i e).entry)
-            (entry_fine k p a big p_small (estimate_cell p above (entry_of u).held.estimate true (entry_of u).held.cell (cell_at s v k p big p_small page i (here_p page i e))))
-            (put_marks s v n size page i t (m % 4 + 4 + 8 * (m / 8)) after l a (ap (λ (j : ℕ). j % 4 + 4 + 8 * (j / 8)) is ∙ estimate_marks u ok)
-            (ap (λ (w : StoreRow). w.payload) (row_is s v n size page i t) ∙ ok_payload u ok))
+            let ok : row_ok u ≡ true = found_fine s v n size c.page c.cell t in
+            let is : m ≡ u.marks = marks ∙ ap (λ (w : StoreRow). w.marks) (row_is s v n size c.page c.cell t) in
+            edited_over s v k p big p_small c.page c.cell (here_p c e) mark_estimate done_answer a after (mark_some (find k p (entries_in s)) (entry_of u).held (here_p c e).entry)
+            (entry_fine k p a big p_small (estimate_cell p above (entry_of u).held.estimate true (entry_of u).held.cell (cell_at s v k p big p_small c.page c.cell (here_p c e))))
+            (put_marks s v n size c.page c.cell t (m % 4 + 4 + 8 * (m / 8)) after l a (ap (λ (j : ℕ). j % 4 + 4 + 8 * (j / 8)) is ∙ estimate_marks u ok)
+            (ap (λ (w : StoreRow). w.payload) (row_is s v n size c.page c.cell t) ∙ ok_payload u ok))
 
 -- A base's shifted index is 0.
-module _ (s : List ℕ) (v : data_valid s ≡ true) (k q : ℕ) (big : k < 4294967296) (place : q ≡ 0) (f : Found) (found : FoundIn s k q f) (w : List ℕ) (at : ℕ) (b : Base) (base : b ≡ base_at (value_at at w) (found_row s f)) where
+module _ (s : List ℕ) (v : data_valid s ≡ true) (k q : ℕ) (big : k < 4294967296) (place : q ≡ 0) (f : Result Place Place) (found : FoundIn s k q f) (w : List ℕ) (at : ℕ) (b : Base) (base : b ≡ base_at (value_at at w) (found_row s f)) where
   base_is : set_base_value (value_at at w) (find k 0 (entries_in s)) ≡ base_ruling (value_at at w) b
   base_is = base_found s v k big (value_at at w) f (found_at s k q 0 f place found) ∙ ap (base_ruling (value_at at w)) (sym base)
 

@@ -27,8 +27,8 @@ use Rattle.versioned_data.specs.Layout.{StoreRow, spot_of, marks_of, body_of, pa
 use Rattle.versioned_data.specs.Left.{Holds, LeftIf, LeftBy}
 use Rattle.versioned_data.specs.Found.{position_at, row_found, Here, Gone, FoundIn, remade, PutOver, PutIn, Put, lack_of_more}
 use Rattle.versioned_data.specs.Edited.{Edited}
-use Rattle.versioned_data.specs.declared.find.Found.{Found}
-use Rattle.versioned_data.specs.declared.find.Found.TheVariants.{There, Absent}
+use Rattle.std.specs.Prelude.{Result, Ok, Err}
+use Rattle.directory.specs.declared.cells.Place.{Place}
 use Rattle.versioned_data.proofs.EntryRows.{entry_back, row_ok_lem}
 use Rattle.versioned_data.proofs.RowOrder.{entries_of, entries_length}
 use Rattle.versioned_data.proofs.SpotPlaces.{there_lt, there_spot, put_over, erase_over, put_new}
@@ -190,8 +190,8 @@ module _ (s : List ℕ) (v : data_valid s ≡ true) (k p : ℕ) (big : k < 42949
         go (no z) = left_lacks s (put k p e (entries_in s)) after (λ h. z (lack_is ∙ h)) (w.kept z)
 
 -- An entry put where it was looked for.
-pub edited_put : (s : List ℕ) → data_valid s ≡ true → (k p : ℕ) → k < 4294967296 → p < 4294967296 → (f : Found) → FoundIn s k p f → (rule : Option Entry → Ruling (Edit Entry)) (answer : List ℕ) (e : Entry) (r : ℕ) (after : List ℕ) →
+pub edited_put : (s : List ℕ) → data_valid s ≡ true → (k p : ℕ) → k < 4294967296 → p < 4294967296 → (f : Result Place Place) → FoundIn s k p f → (rule : Option Entry → Ruling (Edit Entry)) (answer : List ℕ) (e : Entry) (r : ℕ) (after : List ℕ) →
     rule (find k p (entries_in s)) ≡ accept answer (Rows.set e) → fine_entry (row_at k p e) ≡ true → Put s k p f e r after → Edited s k p rule r after
 unfolding FoundIn Put
-edited_put s v k p big small (There page i) t rule answer e r after g f w = rw w.0 (edited_over s v k p big small page i t rule answer e after g f w.1)
-edited_put s v k p big small (Absent page i) t rule answer e r after g f w = edited_in s v k p big small page i t rule answer e r after g f w
+edited_put s v k p big small (Ok c) t rule answer e r after g f w = rw w.0 (edited_over s v k p big small c.page c.cell t rule answer e after g f w.1)
+edited_put s v k p big small (Err c) t rule answer e r after g f w = edited_in s v k p big small c.page c.cell t rule answer e r after g f w

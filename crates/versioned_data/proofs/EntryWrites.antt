@@ -1,18 +1,19 @@
 -- The words of an entry's content as the code writes them.
 -- Assumes nothing.
-use mathlib.Core.Path.{◌≡◌, refl, sym, ◌∙◌, ap}
+use mathlib.Core.Path.{◌≡◌, refl, sym, ◌∙◌, ap, ap₂}
 use mathlib.Core.Bool.{Bool, true, false}
-use mathlib.Core.List.{List, [], ◌∷◌, ◌++◌}
+use mathlib.Core.List.{List, ◌∷◌, ◌++◌, append_assoc}
 use mathlib.Core.Option.{none, some}
 use Prim.Native.Nat.{ℕ, suc, ◌+◌, ◌-◌, ◌*◌, ◌%◌, ◌≤◌, ◌<◌}
 use native.Mathlib.Omega.{arith}
+use borrow.Rule.Slice.PartMut.{put_mid, post_of, Post-is}
+use Rattle.std.proofs.lemmas.List.Edits.{sets-eq}
 use native.Mathlib.Decide.{dec_lt}
 use native.Mathlib.Numerals.{add-one}
 use lib.ListN.{length, get_or, set, take, drop, length-drop, get_or-eq_default}
-use lib.Seq.{sets, length-sets, take-suc, take-take, length-take-le, get_or-take, get_or-drop}
+use lib.Seq.{sets, length-sets, take-take, length-take-le, get_or-take, get_or-drop}
 use Rattle.number.specs.Words.{AreWords}
 use Rattle.number.proofs.Digits.{words_take, words_drop}
-use Rattle.number.proofs.SetRuns.{sets_then}
 use Rattle.delta.specs.Delta.{delta_width, delta_at, delta_ok, sign_word, signed, minus_at, number_at}
 use Rattle.delta.proofs.DeltaFormat.{delta_words_delta_at, sign_back, ok_sign}
 use Rattle.types.specs.Flag.{flag_of}
@@ -51,21 +52,17 @@ unfolding value_at write_put copied
 value_put s x b i t at e = e ∙ ap (λ (k : ℕ). sets (set s b i) k (take value_width (drop at t))) (add-one b)
 
 -- a run that is copied: nothing yet, one word more, and all of it
-pub copy_none : (b : ℕ) (t : List ℕ) (at : ℕ) (s : List ℕ) → s ≡ copied b t at 0 s
+-- words copied into a part of a slice
+pub copy_part : (b m at : ℕ) (s t z : List ℕ) → b + m ≤ length s → at + m ≤ length t → z ≡ take (at + m - at) (drop at t) →
+    put_mid b (b + m - b) s z ≡ copied b t at m s
 unfolding copied
-copy_none b t at s = refl
-
-pub copy_more : (b : ℕ) (t : List ℕ) (at m j : ℕ) (s x : List ℕ) → at + m ≤ length t → j < m → x ≡ copied b t at j s → set x (b + j) (get_or t (at + j) 0) ≡ copied b t at (j + 1) s
-unfolding copied
-copy_more b t at m j s x h g e =
-    let size : length (take j (drop at t)) ≡ j = length-take-le j (drop at t) (omega (arith, length-drop at t)) in
-    let n : j + 1 ≡ suc j = omega arith in
-    sets_then s x (take j (drop at t)) (get_or t (at + j) 0 ∷ []) b j size e
-    ∙ ap (sets s b)
-    (sym (ap (λ (m : ℕ). take m (drop at t)) n ∙ take-suc (drop at t) j 0 (omega (arith, length-drop at t)) ∙ ap (λ (w : ℕ). take j (drop at t) ++ (w ∷ [])) (get_or-drop at t j 0)))
-
-pub copy_end : (b : ℕ) (t : List ℕ) (at m j : ℕ) (s x : List ℕ) → x ≡ copied b t at j s → j ≤ m → m ≤ j → x ≡ copied b t at m s
-copy_end b t at m j s x e f g = let h : j ≡ m = omega arith in e ∙ ap (λ (k : ℕ). copied b t at k s) h
+copy_part b m at s t z room inside e =
+    let k : at + m - at ≡ m = omega arith in
+    let f : z ≡ take m (drop at t) = e ∙ ap (λ (j : ℕ). take j (drop at t)) k in
+    let size : length (take m (drop at t)) ≡ m = length-take-le m (drop at t) (omega (arith, length-drop at t)) in
+    let g : post_of b (b + m - b) s ≡ drop (b + length (take m (drop at t))) s = Post-is b (b + m) s (omega arith) ∙ ap (λ (j : ℕ). drop (b + j) s) (sym size) in
+    ap₂ (λ (x y : List ℕ). take b s ++ (x ++ y)) f g ∙ sym (append_assoc (take b s) (take m (drop at t)) (drop (b + length (take m (drop at t))) s))
+    ∙ sym (sets-eq (take m (drop at t)) s b (omega arith))
 
 -- ---- a write
 

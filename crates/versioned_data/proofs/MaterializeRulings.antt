@@ -1,7 +1,7 @@
 -- What `materialize_delta` answers and leaves is its rule's.
 -- Assumes nothing.
 use mathlib.Core.Path.{◌≡◌, refl, sym, ◌∙◌, ap, ap₂}
-use mathlib.Core.Bool.{Bool, true, false, cond, ◌||◌}
+use mathlib.Core.Bool.{Bool, true, false, ◌||◌}
 use mathlib.Core.List.{List}
 use mathlib.Core.Option.{Option, none, some}
 use Prim.Native.Nat.{ℕ, suc, ◌+◌, ◌-◌, ◌<◌}
@@ -15,8 +15,10 @@ use Rattle.number.specs.Words.{digits}
 use Rattle.number.proofs.Halves.{value_of_number_of, number_of_value_of, value_below}
 use Rattle.delta.specs.Delta.{delta_words}
 use Rattle.types.specs.Index.{shift, shifted_of, word_of}
-use Rattle.types.specs.Refusal.{nothing_there, layout_under_delta, no_number_under_delta, not_materializable}
+use Rattle.types.specs.Refusal.{nothing_there, layout_under_delta, no_number_under_delta, not_materializable, refusal_number}
 use Rattle.types.specs.Response.{response, resolved_kind, unresolved_kind}
+use Rattle.delta.specs.declared.DeltaOp.{DeltaOp}
+use Rattle.types.specs.declared.refusal.Refusal.{Refusal}
 use Rattle.types.specs.declared.index.ShiftedTxnIndex.{ShiftedTxnIndex}
 use Rattle.types.specs.declared.output.MVDataOutput as output
 use Rattle.types.specs.declared.output.MVDataOutput.TheVariants as found
@@ -32,8 +34,8 @@ use Rattle.versioned_data.specs.Left.{LeftBy}
 use Rattle.versioned_data.specs.Found.{row_found, Here, FoundIn, PutOver}
 use Rattle.versioned_data.specs.Output.{refusal_output, output_of}
 use Rattle.versioned_data.specs.Materialize.{materialized_read, materialized_of, Materializes, shortcut_entry}
-use Rattle.versioned_data.specs.declared.find.Found.{Found}
-use Rattle.versioned_data.specs.declared.find.Found.TheVariants.{There, Absent}
+use Rattle.std.specs.Prelude.{Result, Ok, Err}
+use Rattle.directory.specs.declared.cells.Place.{Place}
 use Rattle.versioned_data.specs.declared.materialize.Materialized.{Materialized}
 use Rattle.versioned_data.specs.declared.materialize.Materialized.TheVariants.{Refused, Resolved, Unresolved}
 use Rattle.versioned_data.proofs.EntriesHeld.{every_valid}
@@ -68,60 +70,68 @@ shortcut_fine : (p : ℕ) → 0 < p → (n : ℕ) (u : StoreRow) → n < range �
 unfolding shortcut_entry
 shortcut_fine p above n u h f = shortcut_cell p above (entry_of u).held.estimate n (entry_of u).held.cell (number_tell n h) f
 
-module _ (s : List ℕ) (v : data_valid s ≡ true) (k p : ℕ) (big : k < 4294967296) (small : p < 4294967296) (above : 0 < p) (n : Number) (f : Found) (t : FoundIn s k p f) (page i : ℕ) where
-  pub resolve_refused : f ≡ Absent page i → Materializes s k p (record_shortcut (value_of n)) (resolved (value_of n)) (Refused nothing_there) s
+module _ (s : List ℕ) (v : data_valid s ≡ true) (k p : ℕ) (big : k < 4294967296) (small : p < 4294967296) (above : 0 < p) (n : Number) (f : Result Place Place) (t : FoundIn s k p f) (c : Place) where
+  pub resolve_refused : f ≡ Err c → Materializes s k p (record_shortcut (value_of n)) (resolved (value_of n)) (Refused nothing_there) s
   resolve_refused e =
-      let m : record_shortcut (value_of n) (find k p (entries_in s)) ≡ refuse nothing_there = record_none (value_of n) (find k p (entries_in s)) (found_gone s k p f t page i e).entry in
+      let m : record_shortcut (value_of n) (find k p (entries_in s)) ≡ refuse nothing_there = record_none (value_of n) (find k p (entries_in s)) (found_gone s k p f t c e).entry in
       record {
         answer = answer_refused (record_shortcut (value_of n) (find k p (entries_in s))) (resolved (value_of n)) nothing_there m;
         left = left_refused s k p (record_shortcut (value_of n) (find k p (entries_in s))) nothing_there m;
       }
 
-  pub resolve_done : f ≡ There page i → Halves n → (after : List ℕ) → PutOver s page i (shortcut_entry (value_of n) (row_found s page i)) after →
+  pub resolve_done : f ≡ Ok c → Halves n → (after : List ℕ) → PutOver s c.page c.cell (shortcut_entry (value_of n) (row_found s c.page c.cell)) after →
       Materializes s k p (record_shortcut (value_of n)) (resolved (value_of n)) (Resolved n) after
   resolve_done e h after put =
-      let x : Here s k p page i = found_here s k p f t page i e in
-      let u : StoreRow = row_found s page i in
+      let x : Here s k p c.page c.cell = found_here s k p f t c e in
+      let u : StoreRow = row_found s c.page c.cell in
       let a : Entry = shortcut_entry (value_of n) u in
       let m : record_shortcut (value_of n) (find k p (entries_in s)) ≡ accept (response resolved_kind (digits 4 (value_of n))) (Rows.set a) = record_some (value_of n) (find k p (entries_in s)) u x.entry in
       record {
         answer = answer_resolved (record_shortcut (value_of n) (find k p (entries_in s))) n (response resolved_kind (digits 4 (value_of n))) (Rows.set a) h m;
         left =
-            (edited_over s v k p big small page i x (record_shortcut (value_of n)) (response resolved_kind (digits 4 (value_of n))) a after m
-            (entry_fine k p a big small (shortcut_fine p above (value_of n) u (value_below n h) (cell_at s v k p big small page i x))) put).left;
+            (edited_over s v k p big small c.page c.cell x (record_shortcut (value_of n)) (response resolved_kind (digits 4 (value_of n))) a after m
+            (entry_fine k p a big small (shortcut_fine p above (value_of n) u (value_below n h) (cell_at s v k p big small c.page c.cell x))) put).left;
       }
 
 -- ---- where it does not
 
 -- What is answered for what the read answered, unless it resolved.
-abbrev pub unrecorded : output.MVDataOutput → Materialized
-unrecorded (found.Versioned place incarnation v) = Refused not_materializable
-unrecorded (found.Resolved n) = Resolved n
-unrecorded (found.Unresolved op) = Unresolved op
-unrecorded found.Uninitialized = Refused not_materializable
-unrecorded (found.Dependency index) = Refused not_materializable
-unrecorded found.DeltaApplicationFailure = Refused not_materializable
-unrecorded found.LayoutUnderDelta = Refused layout_under_delta
-unrecorded found.NoNumberUnderDelta = Refused no_number_under_delta
+abbrev pub unrecorded : Result output.MVDataOutput Refusal → Materialized
+unrecorded (Ok (found.Versioned place incarnation v)) = Refused not_materializable
+unrecorded (Ok (found.Resolved n)) = Resolved n
+unrecorded (Ok (found.Unresolved op)) = Unresolved op
+unrecorded (Ok found.Uninitialized) = Refused not_materializable
+unrecorded (Ok (found.Dependency index)) = Refused not_materializable
+unrecorded (Ok found.DeltaApplicationFailure) = Refused not_materializable
+unrecorded (Err r) = Refused (refusal_number r)
 
-abbrev pub resolves : output.MVDataOutput → Bool
-resolves (found.Versioned place incarnation v) = false
-resolves (found.Resolved n) = true
-resolves (found.Unresolved op) = false
-resolves found.Uninitialized = false
-resolves (found.Dependency index) = false
-resolves found.DeltaApplicationFailure = false
-resolves found.LayoutUnderDelta = false
-resolves found.NoNumberUnderDelta = false
+abbrev pub resolves : Result output.MVDataOutput Refusal → Bool
+resolves (Ok (found.Versioned place incarnation v)) = false
+resolves (Ok (found.Resolved n)) = true
+resolves (Ok (found.Unresolved op)) = false
+resolves (Ok found.Uninitialized) = false
+resolves (Ok (found.Dependency index)) = false
+resolves (Ok found.DeltaApplicationFailure) = false
+resolves (Err r) = false
 
 -- a read refuses a layout under a delta, or a missing number there
-refused_by_lem : (n : ℕ) → (eqb n layout_under_delta || eqb n no_number_under_delta) ≡ true → unrecorded (refusal_output n) ≡ Refused n
+refused_by_lem : (n : ℕ) → (eqb n layout_under_delta || eqb n no_number_under_delta) ≡ true → unrecorded (Err (refusal_output n)) ≡ Refused n
 unfolding refusal_output
 refused_by_lem n h = go (eqb n layout_under_delta) refl
   where
-    go : (b : Bool) → eqb n layout_under_delta ≡ b → unrecorded (refusal_output n) ≡ Refused n
+    go : (b : Bool) → eqb n layout_under_delta ≡ b → unrecorded (Err (refusal_output n)) ≡ Refused n
     go true e = rw e (ap Refused (sym (eqb-true n layout_under_delta e)))
     go false e = rw e (ap Refused (sym (eqb-true n no_number_under_delta (rw e at h))))
+
+-- what is neither resolved nor unresolved
+pub other_is : (x : output.MVDataOutput) → ((n : Number) → x ≡ found.Resolved n → ⊥) → ((op : DeltaOp) → x ≡ found.Unresolved op → ⊥) →
+    (resolves (Ok x) ≡ false) × (unrecorded (Ok x) ≡ Refused not_materializable)
+other_is (found.Versioned place incarnation v) f g = (refl, refl)
+other_is (found.Resolved n) f g = absurd (f n refl)
+other_is (found.Unresolved op) f g = absurd (g op refl)
+other_is found.Uninitialized f g = (refl, refl)
+other_is (found.Dependency index) f g = (refl, refl)
+other_is found.DeltaApplicationFailure f g = (refl, refl)
 
 module _ (s : List ℕ) (v : data_valid s ≡ true) (k p : ℕ) (own : Option Entry) where
   left_left : (answer : List ℕ) → LeftBy s k p (accept answer leave) s
@@ -148,7 +158,7 @@ module _ (s : List ℕ) (v : data_valid s ≡ true) (k p : ℕ) (own : Option En
   left_other (refusal n) h = refl
 
 -- a read that resolved
-resolved_has : (read : Read) (n : Number) (G : Type 0) → found.Resolved n ≡ output_of read → ((m : ℕ) → read ≡ resolved m → n ≡ number_of m → G) → G
+resolved_has : (read : Read) (n : Number) (G : Type 0) → Ok (found.Resolved n) ≡ output_of read → ((m : ℕ) → read ≡ resolved m → n ≡ number_of m → G) → G
 unfolding output_of refusal_output
 resolved_has (versioned place incarnation w) n G e h = absurd (let z : ◌≡◌ {A = ℕ} 0 1 = cc in omega arith)
 resolved_has (resolved m) n G e h = h m refl (let z : n ≡ number_of m = cc in z)
@@ -156,15 +166,11 @@ resolved_has (unresolved d) n G e h = absurd (let z : ◌≡◌ {A = ℕ} 0 1 = 
 resolved_has uninitialized n G e h = absurd (let z : ◌≡◌ {A = ℕ} 0 1 = cc in omega arith)
 resolved_has (dependency index) n G e h = absurd (let z : ◌≡◌ {A = ℕ} 0 1 = cc in omega arith)
 resolved_has application_failure n G e h = absurd (let z : ◌≡◌ {A = ℕ} 0 1 = cc in omega arith)
-resolved_has (refusal m) n G e h = absurd (no_refusal (eqb m layout_under_delta) e)
-  where
-    no_refusal : (b : Bool) → found.Resolved n ≡ cond b found.LayoutUnderDelta found.NoNumberUnderDelta → ⊥
-    no_refusal true f = let z : ◌≡◌ {A = ℕ} 0 1 = cc in omega arith
-    no_refusal false f = let z : ◌≡◌ {A = ℕ} 0 1 = cc in omega arith
+resolved_has (refusal m) n G e h = absurd (let z : ◌≡◌ {A = ℕ} 0 1 = cc in omega arith)
 
 -- ---- the operation
 
-module _ (s : List ℕ) (v : data_valid s ≡ true) (k index : ℕ) (bound : ShiftedTxnIndex) (next : bound ≡ shifted_of (shift (index + 1))) (o : output.MVDataOutput) (walked : o ≡ output_of (read_of (down_from k (word_of bound - 1) (entries_in s)))) where
+module _ (s : List ℕ) (v : data_valid s ≡ true) (k index : ℕ) (bound : ShiftedTxnIndex) (next : bound ≡ shifted_of (shift (index + 1))) (o : Result output.MVDataOutput Refusal) (walked : o ≡ output_of (read_of (down_from k (word_of bound - 1) (entries_in s)))) where
   abbrev pub Done : Materialized → List ℕ → Type 0
   Done r after = Materializes s k (suc index) (λ own. materialize_delta own (down_from k (suc index) (entries_in s))) (read_of (down_from k (suc index) (entries_in s))) r after
 
@@ -172,7 +178,7 @@ module _ (s : List ℕ) (v : data_valid s ≡ true) (k index : ℕ) (bound : Shi
   read : o ≡ output_of (read_of (down_from k (suc index) (entries_in s)))
   read = read_by s v k (index + 1) bound next o walked ∙ ap (λ (j : ℕ). output_of (read_of (down_from k j (entries_in s)))) (add-one index)
 
-  pub materialize_other : (x : output.MVDataOutput) → o ≡ x → resolves x ≡ false → Done (unrecorded x) s
+  pub materialize_other : (x : Result output.MVDataOutput Refusal) → o ≡ x → resolves x ≡ false → Done (unrecorded x) s
   unfolding materialize_delta
   materialize_other x e h =
       let seen : Read = read_of (down_from k (suc index) (entries_in s)) in
@@ -183,7 +189,7 @@ module _ (s : List ℕ) (v : data_valid s ≡ true) (k index : ℕ) (bound : Shi
         left = left_other s v k (suc index) own seen other;
       }
 
-  pub materialize_resolved : (n : Number) → o ≡ found.Resolved n → (q : ℕ) → q ≡ suc index → (r : Materialized) (after : List ℕ) →
+  pub materialize_resolved : (n : Number) → o ≡ Ok (found.Resolved n) → (q : ℕ) → q ≡ suc index → (r : Materialized) (after : List ℕ) →
       Materializes s k q (record_shortcut (value_of n)) (resolved (value_of n)) r after → Done r after
   unfolding materialize_delta materialized
   materialize_resolved n t q place r after w =

@@ -2,20 +2,22 @@
 -- Assumes nothing.
 use mathlib.Core.Path.{◌≡◌, refl, sym, ◌∙◌, ap}
 use mathlib.Core.Bool.{Bool, true, false, ◌&&◌}
+use Rattle.std.specs.Prelude.{Option, Some, None}
+use Rattle.directory.specs.declared.cells.Place.{Place}
 use mathlib.Core.List.{List, [], ◌∷◌, ◌++◌}
 use Prim.Native.Nat.{ℕ, zero, suc, ◌+◌, ◌-◌, ◌*◌, ◌/◌, ◌%◌, ◌≤◌, ◌<◌, ◌^◌}
 use native.Mathlib.Omega.{arith}
 use lib.Dec.{eqb}
 use lib.ListN.{length, get_or, take, drop}
 use lib.Seq.{take-take, drop-cons}
-use borrow.Author.Tests.{ltb-true, ltb-false, lt-ltb, le-ltb, eq-eqb, ne_eqb}
+use borrow.Author.Tests.{lt-ltb, le-ltb, eq-eqb, ne_eqb}
 use Rattle.lists.specs.Lists.{every}
 use Rattle.number.specs.Words.{AreWords}
 use Rattle.number.proofs.Digits.{words_take, words_drop}
 use Rattle.delta.specs.Delta.{delta_ok}
-use Rattle.delta.specs.Op.{op_at, valid_op}
+use Rattle.delta.specs.Record.{op_at, valid_op}
 use Rattle.delta.specs.declared.DeltaOp.{DeltaOp}
-use Rattle.delta.proofs.DeltaOps.{valid_op_op_at}
+use Rattle.delta.proofs.RecordLaws.{valid_op_op_at}
 use Rattle.types.specs.Value.{value_at, value_ok, is_exchanged}
 use Rattle.types.specs.ValueWithLayout.{value_from, words_of}
 use Rattle.types.specs.declared.value.ValueWithLayout.{ValueWithLayout}
@@ -25,13 +27,13 @@ use Rattle.moves.specs.Moves.{all_zero}
 use Rattle.probe.specs.Cells.{spot_at}
 use Rattle.pages.specs.Dir.{flat, offset}
 use Rattle.directory.specs.Cells.{position_in}
-use Rattle.store.specs.Held.{base_of, held_in, position_of, content_of, no_row}
+use Rattle.store.specs.Held.{base_of, held_in, position_of, position_or_end, content_of, no_row}
 use Rattle.store.specs.Valid.{Valid, Stands, There}
 use Rattle.store.specs.Scan.{is_store}
 use Rattle.store.proofs.Reading.{position_held, row_spot}
 use Rattle.store.proofs.ScanStores.{store_told}
 use Rattle.versioned_data.specs.Layout.{payload_width, content_width, StoreRow, rows_in, row_ok, data_valid}
-use Rattle.versioned_data.specs.Rows.{rows_of, Met}
+use Rattle.versioned_data.specs.Rows.{rows_of, row_of_place, position_from}
 use Rattle.versioned_data.specs.Rows as Rows
 use Rattle.versioned_data.specs.Test.{side_test, write_test, delta_test, marks_test, row_test}
 use Rattle.versioned_data.proofs.ContentWords.{rest_of, word_of_lem, value_of_lem, content_inside, payload_size, payload_is}
@@ -178,8 +180,8 @@ module _ (rows : List StoreRow) (c : ℕ) where
   unfolding every
   every_step h = rw (drop-cons rows c no_row h)
 
-abbrev pub rest_ok : ℕ → List ℕ → ℕ → ℕ → Bool
-rest_ok n s page cell = every row_ok (drop (Rows.position_in n s page cell) (rows_of n s))
+abbrev pub rest_ok : ℕ → List ℕ → Option Place → Bool
+rest_ok n s at = every row_ok (drop (position_from n s at) (rows_of n s))
 
 -- the first place
 pub first_stands : (n : ℕ) (s : List ℕ) → Stands payload_width n s 0 0
@@ -190,31 +192,40 @@ first_position : (n : ℕ) (s : List ℕ) → Rows.position_in n s 0 0 ≡ 0
 unfolding position_of position_in offset flat
 first_position n s = refl
 
-module _ (n : ℕ) (s : List ℕ) where
-  pub rows_start : (page cell : ℕ) → Rows.position_in n s page cell ≡ Rows.position_in n s 0 0 → every row_ok (rows_of n s) ≡ rest_ok n s page cell
-  rows_start page cell e = let f : Rows.position_in n s page cell ≡ 0 = e ∙ first_position n s in rw f
+module _ (n : ℕ) (s : List ℕ) (at : Option Place) where
+  pub rows_start : position_from n s at ≡ Rows.position_in n s 0 0 → every row_ok (rows_of n s) ≡ rest_ok n s at
+  rows_start e = let f : position_from n s at ≡ 0 = e ∙ first_position n s in rw f
 
-  module _ (page cell : ℕ) (is : Bool) (met : Met n s page cell is) (told : every row_ok (rows_of n s) ≡ rest_ok n s page cell) where
-    abbrev here : ℕ
-    here = Rows.position_in n s page cell
-
-    pub rows_end : is ≡ false → true ≡ every row_ok (rows_of n s)
+  module _ (told : every row_ok (rows_of n s) ≡ rest_ok n s at) where
+    pub rows_end : at ≡ None → true ≡ every row_ok (rows_of n s)
+    unfolding position_or_end
     rows_end e =
-        sym (told ∙ every_end (rows_of n s) here (ltb-false here (length (rows_of n s)) (sym met.left ∙ e)))
+        let f : length (rows_of n s) ≤ position_from n s at = rw e (omega arith) in
+        sym (told ∙ every_end (rows_of n s) (position_from n s at) f)
 
-    pub rows_inside : is ≡ true → here < length (rows_of n s)
-    rows_inside e = ltb-true here (length (rows_of n s)) (sym met.left ∙ e)
+    module _ (p : Place) (e : at ≡ Some p) (there : There payload_width n s p.page p.cell) where
+      here : position_from n s at ≡ Rows.position_in n s p.page p.cell
+      unfolding position_or_end
+      here = rw e refl
 
-    module _ (e : is ≡ true) (r : Bool) (row : r ≡ row_ok (get_or (rows_of n s) here no_row)) where
-      step : every row_ok (rows_of n s) ≡ (r && every row_ok (drop (suc here) (rows_of n s)))
-      step = told ∙ every_step (rows_of n s) here (rows_inside e) ∙ ap (λ (q : Bool). q && every row_ok (drop (suc here) (rows_of n s))) (sym row)
+      pub rows_less : (to : Option Place) → position_from n s to ≡ suc (Rows.position_in n s p.page p.cell) →
+          length (rows_of n s) - position_from n s to < length (rows_of n s) - position_from n s at
+      rows_less to q = omega (arith, here, q, position_held payload_width n s p.page p.cell there)
 
-      pub rows_bad : r ≡ false → false ≡ every row_ok (rows_of n s)
-      rows_bad f = sym (step ∙ ap (λ (q : Bool). q && every row_ok (drop (suc here) (rows_of n s))) f)
+      module _ (r : Bool) (row : r ≡ row_ok (row_of_place n s p)) where
+        step : every row_ok (rows_of n s) ≡ (r && every row_ok (drop (suc (Rows.position_in n s p.page p.cell)) (rows_of n s)))
+        step =
+            told ∙ ap (λ (k : ℕ). every row_ok (drop k (rows_of n s))) here
+            ∙ every_step (rows_of n s) (Rows.position_in n s p.page p.cell) (position_held payload_width n s p.page p.cell there)
+            ∙ ap (λ (q : Bool). q && every row_ok (drop (suc (Rows.position_in n s p.page p.cell)) (rows_of n s))) (sym row)
 
-      pub rows_on : r ≡ true → (page' cell' : ℕ) → Rows.position_in n s page' cell' ≡ suc here → every row_ok (rows_of n s) ≡ rest_ok n s page' cell'
-      rows_on f page' cell' p =
-          step ∙ ap (λ (q : Bool). q && every row_ok (drop (suc here) (rows_of n s))) f ∙ ap (λ (k : ℕ). every row_ok (drop k (rows_of n s))) (sym p)
+        pub rows_bad : r ≡ false → false ≡ every row_ok (rows_of n s)
+        rows_bad f = sym (step ∙ ap (λ (q : Bool). q && every row_ok (drop (suc (Rows.position_in n s p.page p.cell)) (rows_of n s))) f)
+
+        pub rows_on : r ≡ true → (to : Option Place) → position_from n s to ≡ suc (Rows.position_in n s p.page p.cell) → every row_ok (rows_of n s) ≡ rest_ok n s to
+        rows_on f to q =
+            step ∙ ap (λ (q : Bool). q && every row_ok (drop (suc (Rows.position_in n s p.page p.cell)) (rows_of n s))) f
+            ∙ ap (λ (k : ℕ). every row_ok (drop k (rows_of n s))) (sym q)
 
 -- ---- the whole
 

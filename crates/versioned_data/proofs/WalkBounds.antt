@@ -2,6 +2,7 @@
 -- Assumes nothing.
 use mathlib.Core.Path.{◌≡◌, sym, ◌∙◌, ap}
 use mathlib.Core.Bool.{true}
+use Rattle.std.specs.Prelude.{Result, Ok}
 use mathlib.Core.List.{List, map, reverse}
 use Prim.Native.Nat.{ℕ, ◌-◌, ◌<◌}
 use native.Mathlib.Omega.{arith}
@@ -11,6 +12,7 @@ use Rattle.types.specs.Index.{shift, shifted_of, word_of}
 use Rattle.types.specs.Units.{units_in}
 use Rattle.types.specs.declared.index.ShiftedTxnIndex.{ShiftedTxnIndex}
 use Rattle.types.specs.declared.output.MVDataOutput.{MVDataOutput}
+use Rattle.types.specs.declared.refusal.Refusal.{Refusal}
 use Rattle.types.specs.declared.output.MVDataOutput.TheVariants.{Uninitialized}
 use Rattle.probe.specs.Cells.{count_above}
 use Rattle.numbers.specs.Numbers.{Drops}
@@ -26,7 +28,7 @@ use Rattle.versioned_data.proofs.EntriesHeld.{every_ok, rows_here, rows_none, st
 
 module _ (s : List ℕ) (v : data_valid s ≡ true) where
   -- a store of no units
-  pub read_none : (n : ℕ) → n ≡ units_in (length s) → n ≡ 0 → (key reach : ℕ) → Uninitialized ≡ output_of (read_of (down_from key reach (entries_in s)))
+  pub read_none : (n : ℕ) → n ≡ units_in (length s) → n ≡ 0 → (key reach : ℕ) → Ok Uninitialized ≡ output_of (read_of (down_from key reach (entries_in s)))
   unfolding entries_in read_of walk at_end output_of down_from keep
   read_none n e z key reach = rw (rows_none s v (sym e ∙ z))
 
@@ -54,7 +56,7 @@ module _ (s : List ℕ) (v : data_valid s ≡ true) where
 
     -- what the walk meets from the place that was found is what a reader sees
     pub read_found : (key : ℕ) (bound : ShiftedTxnIndex) → word_of bound < 4294967296 → (w : ℕ) → w ≡ word_of bound → (y : ℕ) → y ≡ spot_of key (w - 1) → (found : ℕ) →
-        found ≡ count_above y (row_spots (rows_of n s)) → (position : ℕ) → position ≡ found → (o : MVDataOutput) → o ≡ output_of (read_of (down_rows key position (rows_of n s))) →
+        found ≡ count_above y (row_spots (rows_of n s)) → (position : ℕ) → position ≡ found → (o : Result MVDataOutput Refusal) → o ≡ output_of (read_of (down_rows key position (rows_of n s))) →
         o ≡ output_of (read_of (down_from key (word_of bound - 1) (entries_in s)))
     unfolding entries_in
     read_found key bound small w f y g found h position p o t =
@@ -68,7 +70,7 @@ module _ (s : List ℕ) (v : data_valid s ≡ true) where
         ∙ ap (λ (l : List (Row Entry)). output_of (read_of (down_from key (word_of bound - 1) l))) same
 
   -- the bound of a transaction's read is its shifted index
-  pub read_by : (key index : ℕ) (bound : ShiftedTxnIndex) → bound ≡ shifted_of (shift index) → (o : MVDataOutput) →
+  pub read_by : (key index : ℕ) (bound : ShiftedTxnIndex) → bound ≡ shifted_of (shift index) → (o : Result MVDataOutput Refusal) →
       o ≡ output_of (read_of (down_from key (word_of bound - 1) (entries_in s))) → o ≡ output_of (read_of (down_from key index (entries_in s)))
   read_by key index bound e o f =
       let n : word_of bound - 1 ≡ index = omega (arith, ap word_of e) in

@@ -8,10 +8,12 @@ use Prim.Native.Nat.{ℕ}
 use Rattle.lists.specs.Lists.{every}
 use Rattle.lists.proofs.Bools.{and_both, and_left, and_right}
 use Rattle.delta.specs.Delta.{Delta, Accumulated, nothing, accumulate, accumulate_all}
-use Rattle.delta.specs.Op.{exact, op_of, exactly, accumulator_of, valid_op, valid_ops, fold_records}
+use Rattle.delta.specs.Op.{exactly, accumulator_of, valid_ops, fold_records}
+use Rattle.delta.specs.Record.{exact, op_of, valid_op}
 use Rattle.delta.specs.declared.DeltaOp.{DeltaOp}
 use Rattle.delta.specs.declared.Accumulator.{Accumulator}
-use Rattle.delta.proofs.DeltaOps.{exact_op_of, valid_op_op_of, exactly_accumulator_of}
+use Rattle.delta.proofs.RecordLaws.{exact_op_of, valid_op_op_of}
+use Rattle.delta.proofs.DeltaRuns.{exactly_accumulator_of}
 use Rattle.model.specs.Rows.{Row, down_from}
 use Rattle.model.specs.Data
 use Rattle.model.specs.Data.{Entry, walk, at_row, at_cell, past, read_of}

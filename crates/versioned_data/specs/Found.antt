@@ -1,16 +1,15 @@
 -- Where an entry stands among the rows of a store, as the code learns it, and what an entry put there comes to.
-use Rattle.std.specs.Prelude.{◌≡◌, false, List, ℕ, suc, ◌<◌, length, get_or, set}
+use Rattle.std.specs.Prelude.{◌≡◌, false, Result, Ok, Err, List, ℕ, suc, ◌<◌, length, get_or, set}
 use Rattle.std.proofs.Math.Option.{Option, none, some}
 use Rattle.types.specs.Units.{lack_of, units_in}
 use Rattle.probe.specs.Cells.{count_above, insert_at}
+use Rattle.directory.specs.declared.cells.Place.{Place}
 use Rattle.store.specs.Held.{position_of, row_spots, no_row}
 use Rattle.store.specs.Valid as Store
 use Rattle.store.specs.Edits.{Left}
 use Rattle.model.specs.Rows.{find, row_at}
 use Rattle.model.specs.Data.{Entry}
 use Rattle.versioned_data.specs.Layout.{StoreRow, spot_of, marks_of, body_of, padded, row_of, entry_of, rows_in, entries_in}
-use Rattle.versioned_data.specs.declared.find.Found.{Found}
-use Rattle.versioned_data.specs.declared.find.Found.TheVariants.{There, Absent}
 
 -- The position among the rows of cell i of a page, and the row there.
 unfoldable pub position_at : List ℕ → ℕ → ℕ → ℕ
@@ -36,19 +35,19 @@ pub record Gone (s : List ℕ) (key place page i : ℕ) : Type 0 where
   pub position : 0 < units_in (length s) → position_at s page i ≡ count_above (spot_of key place) (row_spots (rows_in s))
   pub entry : find key place (entries_in s) ≡ none
 
-unfoldable pub FoundIn : List ℕ → ℕ → ℕ → Found → Type 0
-FoundIn s key place (There page i) = Here s key place page i
-FoundIn s key place (Absent page i) = Gone s key place page i
+unfoldable pub FoundIn : List ℕ → ℕ → ℕ → Result Place Place → Type 0
+FoundIn s key place (Ok p) = Here s key place p.page p.cell
+FoundIn s key place (Err p) = Gone s key place p.page p.cell
 
 -- The row that was found.
-unfoldable pub found_row : List ℕ → Found → Option StoreRow
-found_row s (There page i) = some (row_found s page i)
-found_row s (Absent page i) = none
+unfoldable pub found_row : List ℕ → Result Place Place → Option StoreRow
+found_row s (Ok p) = some (row_found s p.page p.cell)
+found_row s (Err p) = none
 
 -- What was found is there.
-unfoldable pub RowIn : List ℕ → Found → Type 0
-RowIn s (There page i) = IsRow s page i
-RowIn s (Absent page i) = Unit
+unfoldable pub RowIn : List ℕ → Result Place Place → Type 0
+RowIn s (Ok p) = IsRow s p.page p.cell
+RowIn s (Err p) = Unit
 
 -- A row with another entry.
 unfoldable pub remade : Entry → StoreRow → StoreRow
@@ -70,6 +69,6 @@ pub record PutIn (s : List ℕ) (key place page i : ℕ) (e : Entry) (r : ℕ) (
   pub kept : (r ≡ 0 → ⊥) → after ≡ s
 
 -- An entry put where it was looked for: over the one there, or in.
-unfoldable pub Put : List ℕ → ℕ → ℕ → Found → Entry → ℕ → List ℕ → Type 0
-Put s key place (There page i) e r after = (r ≡ 0) × PutOver s page i e after
-Put s key place (Absent page i) e r after = PutIn s key place page i e r after
+unfoldable pub Put : List ℕ → ℕ → ℕ → Result Place Place → Entry → ℕ → List ℕ → Type 0
+Put s key place (Ok p) e r after = (r ≡ 0) × PutOver s p.page p.cell e after
+Put s key place (Err p) e r after = PutIn s key place p.page p.cell e r after

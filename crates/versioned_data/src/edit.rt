@@ -10,54 +10,55 @@ ghost use Rattle.versioned_data.specs.Base.{base_at, may_put};
 ghost use Rattle.versioned_data.specs.Edited.{Edited};
 
 use crate::base::{Base, over_base};
-use crate::find::{Found, find_entry};
+use crate::find::find_entry;
 use crate::layout;
+use crate::layout::{DataRows, PARTS, WIDTH};
 use crate::put::{put_delta, put_write};
+use directory::cells::Place;
 use store::edit::{erase, set_marks};
-use store::read::{content_at, marks_at, units};
+use store::read::Rows;
 use types::index::{Incarnation, ShiftedTxnIndex, TxnIndex};
 use types::refusal;
+use types::units::units;
 use types::value::ValueWithLayout;
 
 // Whether a write of this incarnation may go where it was looked for: over a write only if it is higher.
-fn may_write(s: &[u32], found: Found, incarnation: u32) -> bool
+fn may_write(s: &[u32], found: Result<Place, Place>, incarnation: u32) -> bool
     requires valid { data_valid s.now ≡ true }
     requires row { RowIn s.now found }
     ensures may { result ≡ may_put incarnation (found_row s.now found) }
 {
     match found {
-        Found::Absent(_, _) => {
-            return true;
-        }
-        Found::There(page, i) => {
+        Err(_) => true,
+        Ok(row) => {
             let n = units(s);
-            let m = marks_at(s, n, layout::WIDTH, false, page, i);
+            let rows: DataRows = Rows { words: s, units: n };
+            let m = rows.marks_at(row);
             if m % 4 != layout::WRITE {
                 return true;
             }
-            let b = content_at(s, n, layout::WIDTH, false, page, i);
-            return s[b] < incarnation;
+            let b = rows.content_at(row);
+            s[b] < incarnation
         }
     }
 }
 
 // What a base value is to do where it was looked for.
-fn base_at(s: &[u32], found: Found, t: &[u32], at: usize) -> Base
+fn base_at(s: &[u32], found: Result<Place, Place>, t: &[u32], at: usize) -> Base
     requires valid { data_valid s.now ≡ true }
     requires row { RowIn s.now found }
     requires inside { at + value_width ≤ length t.now }
     ensures base { result ≡ base_at (value_at at t.now) (found_row s.now found) }
 {
     match found {
-        Found::Absent(_, _) => {
-            return Base::Set;
-        }
-        Found::There(page, i) => {
+        Err(_) => Base::Set,
+        Ok(row) => {
             let n = units(s);
-            let b = content_at(s, n, layout::WIDTH, false, page, i);
+            let rows: DataRows = Rows { words: s, units: n };
+            let b = rows.content_at(row);
             let existing = ValueWithLayout::read(s, b + 1);
             let value = ValueWithLayout::read(t, at);
-            return over_base(value, existing);
+            over_base(value, existing)
         }
     }
 }
@@ -83,22 +84,14 @@ pub fn mark_estimate(s: &mut [u32], key: u32, txn_idx: TxnIndex) -> u32
 {
     let found = find_entry(s, key, ShiftedTxnIndex::new(txn_idx));
     match found {
-        Found::Absent(_, _) => {
-            return refusal::NOTHING_THERE;
-        }
-        Found::There(page, i) => {
+        Err(_) => refusal::NOTHING_THERE,
+        Ok(row) => {
             let n = units(s);
-            let m = marks_at(s, n, layout::WIDTH, false, page, i);
-            set_marks(
-                s,
-                n,
-                layout::WIDTH,
-                false,
-                page,
-                i,
-                m % 4 + layout::ESTIMATE + 8 * (m / 8),
-            );
-            return 0;
+            let rows: DataRows = Rows { words: s, units: n };
+            let m = rows.marks_at(row);
+            let marks = m % 4 + layout::ESTIMATE + 8 * (m / 8);
+            set_marks::<WIDTH, PARTS>(s, n, row, marks);
+            0
         }
     }
 }
@@ -111,13 +104,11 @@ pub fn remove(s: &mut [u32], key: u32, txn_idx: TxnIndex) -> u32
 {
     let found = find_entry(s, key, ShiftedTxnIndex::new(txn_idx));
     match found {
-        Found::Absent(_, _) => {
-            return refusal::NOTHING_THERE;
-        }
-        Found::There(page, i) => {
+        Err(_) => refusal::NOTHING_THERE,
+        Ok(row) => {
             let n = units(s);
-            erase(s, n, layout::WIDTH, false, page, i);
-            return 0;
+            erase::<WIDTH, PARTS>(s, n, row);
+            0
         }
     }
 }
@@ -132,15 +123,9 @@ pub fn set_base_value(s: &mut [u32], key: u32, t: &[u32], at: usize) -> u32
     let place = ShiftedTxnIndex::zero_idx();
     let found = find_entry(s, key, place);
     match base_at(s, found, t, at) {
-        Base::Keep => {
-            return 0;
-        }
-        Base::Differs => {
-            return refusal::BASE_DIFFERS;
-        }
-        Base::Set => {
-            return put_write(s, found, key, place.word(), 0, t, at);
-        }
+        Base::Keep => 0,
+        Base::Differs => refusal::BASE_DIFFERS,
+        Base::Set => put_write(s, found, key, place.word(), 0, t, at),
     }
 }
 

@@ -9,15 +9,18 @@ ghost use Rattle.versioned_data.specs.Found.{row_found, IsRow, PutOver};
 ghost use Rattle.versioned_data.specs.Materialize.{Materializes, shortcut_entry};
 
 use crate::fetch::read_at;
-use crate::find::{Found, find_entry};
+use crate::find::find_entry;
 use crate::layout;
+use crate::layout::{DataRows, PARTS, WIDTH};
 use delta::DeltaOp;
+use directory::cells::Place;
 use number::Number;
 use store::edit::set_marks;
-use store::read::{content_at, marks_at, units};
+use store::read::Rows;
 use types::index::{ShiftedTxnIndex, TxnIndex};
 use types::output::MVDataOutput;
 use types::refusal;
+use types::units::units;
 
 // The Rust's `Result<u128, DeltaOp>`; where it panics, a refusal by its number.
 #[derive(Clone, Copy)]
@@ -28,27 +31,21 @@ pub enum Materialized {
 }
 
 // Records the value as a base value shortcut in the delta of a row. A write has none and is left as it is.
-fn record_delta_shortcut(s: &mut [u32], page: usize, i: usize, v: Number)
+fn record_delta_shortcut(s: &mut [u32], row: Place, v: Number)
     requires valid { data_valid s.old ≡ true }
-    requires row { IsRow s.old page i }
-    ensures recorded { PutOver s.old page i (shortcut_entry (value_of v) (row_found s.old page i)) s.new }
+    requires row { IsRow s.old row.page row.cell }
+    ensures recorded { PutOver s.old row.page row.cell (shortcut_entry (value_of v) (row_found s.old row.page row.cell)) s.new }
 {
     let n = units(s);
-    let m = marks_at(s, n, layout::WIDTH, false, page, i);
+    let rows: DataRows = Rows { words: s, units: n };
+    let m = rows.marks_at(row);
     if m % 4 == layout::WRITE {
         return;
     }
-    let b = content_at(s, n, layout::WIDTH, false, page, i);
+    let b = rows.content_at(row);
     number::words::write(s, b + layout::SHORTCUT, v);
-    set_marks(
-        s,
-        n,
-        layout::WIDTH,
-        false,
-        page,
-        i,
-        layout::DELTA_WITH_SHORTCUT + 4 * (m / 4),
-    );
+    let marks = layout::DELTA_WITH_SHORTCUT + 4 * (m / 4);
+    set_marks::<WIDTH, PARTS>(s, n, row, marks);
 }
 
 // An entry that is not there is refused, where the Rust panics.
@@ -59,12 +56,10 @@ fn resolve_at(s: &mut [u32], key: u32, at: ShiftedTxnIndex, v: Number) -> Materi
 {
     let found = find_entry(s, key, at);
     match found {
-        Found::Absent(_, _) => {
-            return Materialized::Refused(refusal::NOTHING_THERE);
-        }
-        Found::There(page, i) => {
-            record_delta_shortcut(s, page, i, v);
-            return Materialized::Resolved(v);
+        Err(_) => Materialized::Refused(refusal::NOTHING_THERE),
+        Ok(row) => {
+            record_delta_shortcut(s, row, v);
+            Materialized::Resolved(v)
         }
     }
 }
@@ -75,30 +70,13 @@ pub fn materialize_delta(s: &mut [u32], key: u32, txn_idx: TxnIndex) -> Material
     requires served { txn_idx < materialize_bound }
     ensures materialized { Materializes s.old key (suc txn_idx) (λ own. rule.materialize_delta own (down_from key (suc txn_idx) (entries_in s.old))) (rule.read_of (down_from key (suc txn_idx) (entries_in s.old))) result s.new }
 {
-    match read_at(s, key, ShiftedTxnIndex::new(txn_idx + 1)) {
-        MVDataOutput::Resolved(n) => {
-            return resolve_at(s, key, ShiftedTxnIndex::new(txn_idx), n);
-        }
-        MVDataOutput::Unresolved(op) => {
-            return Materialized::Unresolved(op);
-        }
-        MVDataOutput::LayoutUnderDelta => {
-            return Materialized::Refused(refusal::LAYOUT_UNDER_DELTA);
-        }
-        MVDataOutput::NoNumberUnderDelta => {
-            return Materialized::Refused(refusal::NO_NUMBER_UNDER_DELTA);
-        }
-        MVDataOutput::Versioned(_, _, _) => {
-            return Materialized::Refused(refusal::NOT_MATERIALIZABLE);
-        }
-        MVDataOutput::Uninitialized => {
-            return Materialized::Refused(refusal::NOT_MATERIALIZABLE);
-        }
-        MVDataOutput::Dependency(_) => {
-            return Materialized::Refused(refusal::NOT_MATERIALIZABLE);
-        }
-        MVDataOutput::DeltaApplicationFailure => {
-            return Materialized::Refused(refusal::NOT_MATERIALIZABLE);
-        }
+    let found = match read_at(s, key, ShiftedTxnIndex::new(txn_idx + 1)) {
+        Ok(found) => found,
+        Err(refusal) => return Materialized::Refused(refusal.number()),
+    };
+    match found {
+        MVDataOutput::Resolved(n) => resolve_at(s, key, ShiftedTxnIndex::new(txn_idx), n),
+        MVDataOutput::Unresolved(op) => Materialized::Unresolved(op),
+        _ => Materialized::Refused(refusal::NOT_MATERIALIZABLE),
     }
 }

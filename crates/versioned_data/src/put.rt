@@ -8,13 +8,14 @@ ghost use Rattle.versioned_data.specs.Layout.{marks_of, data_valid};
 ghost use Rattle.versioned_data.specs.Found.{IsRow, Gone, FoundIn, PutOver, PutIn, Put, lack_of_more};
 ghost use Rattle.versioned_data.specs.Puts.{copied, write_put, delta_here, delta_entry};
 
-use crate::find::Found;
 use crate::layout;
+use crate::layout::{DataRows, PARTS, WIDTH};
+use directory::cells::Place;
 use moves::clear;
 use store::edit::{insert, set_marks};
-use store::read::{content_at, marks_at, units, units_held};
+use store::read::Rows;
 use types::refusal;
-use types::units::lack_of;
+use types::units::{lack_of, units};
 use types::value::VALUE_WIDTH;
 
 // m words of a request, from `at` on.
@@ -23,11 +24,7 @@ fn put_words(s: &mut [u32], b: usize, t: &[u32], at: usize, m: usize)
     requires inside { at + m ≤ length t.now }
     ensures put { s.new ≡ copied b t.now at m s.old }
 {
-    let mut j = 0;
-    while j < m {
-        s[b + j] = t[at + j];
-        j += 1;
-    }
+    s[b..b + m].copy_from_slice(&t[at..at + m]);
 }
 
 // The words of a write: its incarnation, and the value at `at` of a request's words.
@@ -41,22 +38,23 @@ fn put_value(s: &mut [u32], b: usize, incarnation: u32, t: &[u32], at: usize)
 }
 
 // A write over the entry of a row. The longer content of another form is cleared first.
-pub fn write_over(s: &mut [u32], page: usize, i: usize, incarnation: u32, t: &[u32], at: usize)
+pub fn write_over(s: &mut [u32], row: Place, incarnation: u32, t: &[u32], at: usize)
     requires valid { data_valid s.old ≡ true }
-    requires row { IsRow s.old page i }
+    requires row { IsRow s.old row.page row.cell }
     requires inside { at + value_width ≤ length t.now }
-    ensures put { PutOver s.old page i (rule.done (rule.write incarnation (value_at at t.now))) s.new }
+    ensures put { PutOver s.old row.page row.cell (rule.done (rule.write incarnation (value_at at t.now))) s.new }
 {
     let n = units(s);
-    let m = marks_at(s, n, layout::WIDTH, false, page, i);
-    let b = content_at(s, n, layout::WIDTH, false, page, i);
+    let rows: DataRows = Rows { words: s, units: n };
+    let m = rows.marks_at(row);
+    let b = rows.content_at(row);
     if m == layout::WRITE {
         put_value(s, b, incarnation, t, at);
         return;
     }
     clear(s, b, layout::CONTENT);
     put_value(s, b, incarnation, t, at);
-    set_marks(s, n, layout::WIDTH, false, page, i, layout::WRITE);
+    set_marks::<WIDTH, PARTS>(s, n, row, layout::WRITE);
 }
 
 // The marks of a delta of a request's words: its sign is the last of them.
@@ -70,19 +68,20 @@ fn delta_marks(t: &[u32], at: usize) -> u32
 }
 
 // A delta over the entry of a row.
-pub fn delta_over(s: &mut [u32], page: usize, i: usize, t: &[u32], at: usize)
+pub fn delta_over(s: &mut [u32], row: Place, t: &[u32], at: usize)
     requires valid { data_valid s.old ≡ true }
-    requires row { IsRow s.old page i }
+    requires row { IsRow s.old row.page row.cell }
     requires inside { at + delta_width ≤ length t.now }
     requires delta { delta_here t.now at ≡ true }
-    ensures put { PutOver s.old page i (delta_entry t.now at) s.new }
+    ensures put { PutOver s.old row.page row.cell (delta_entry t.now at) s.new }
 {
     let n = units(s);
     let m = delta_marks(t, at);
-    let b = content_at(s, n, layout::WIDTH, false, page, i);
+    let rows: DataRows = Rows { words: s, units: n };
+    let b = rows.content_at(row);
     put_words(s, b, t, at, layout::SHORTCUT);
     clear(s, b + layout::SHORTCUT, 4);
-    set_marks(s, n, layout::WIDTH, false, page, i, m);
+    set_marks::<WIDTH, PARTS>(s, n, row, m);
 }
 
 // The refusal of one row more where no unit is free for it, 0 where one is.
@@ -94,7 +93,8 @@ fn lack_of_more(s: &[u32], n: usize) -> u32
     if n == 0 {
         return refusal::UNITS_EXHAUSTED;
     }
-    lack_of(units_held(s, n, layout::WIDTH, false) + 1, n)
+    let rows: DataRows = Rows { words: s, units: n };
+    lack_of(rows.units_held() + 1, n)
 }
 
 // A write in a row of its own, unless units lack.
@@ -102,52 +102,33 @@ pub fn write_in(
     s: &mut [u32],
     key: u32,
     place: u32,
-    page: usize,
-    i: usize,
+    row: Place,
     incarnation: u32,
     t: &[u32],
     at: usize,
 ) -> u32
     requires valid { data_valid s.old ≡ true }
-    requires gone { Gone s.old key place page i }
+    requires gone { Gone s.old key place row.page row.cell }
     requires inside { at + value_width ≤ length t.now }
-    ensures put { PutIn s.old key place page i (rule.done (rule.write incarnation (value_at at t.now))) result s.new }
+    ensures put { PutIn s.old key place row.page row.cell (rule.done (rule.write incarnation (value_at at t.now))) result s.new }
 {
     let n = units(s);
     let lack = lack_of_more(s, n);
     if lack != 0 {
         return lack;
     }
-    let b = insert(
-        s,
-        n,
-        layout::WIDTH,
-        false,
-        page,
-        i,
-        place,
-        key,
-        layout::WRITE,
-    );
+    let b = insert::<WIDTH, PARTS>(s, n, row, place, key, layout::WRITE);
     put_value(s, b, incarnation, t, at);
     0
 }
 
 // A delta in a row of its own, unless units lack.
-pub fn delta_in(
-    s: &mut [u32],
-    key: u32,
-    place: u32,
-    page: usize,
-    i: usize,
-    t: &[u32],
-    at: usize,
-) -> u32
+pub fn delta_in(s: &mut [u32], key: u32, place: u32, row: Place, t: &[u32], at: usize) -> u32
     requires valid { data_valid s.old ≡ true }
-    requires gone { Gone s.old key place page i }
+    requires gone { Gone s.old key place row.page row.cell }
     requires inside { at + delta_width ≤ length t.now }
     requires delta { delta_here t.now at ≡ true }
-    ensures put { PutIn s.old key place page i (delta_entry t.now at) result s.new }
+    ensures put { PutIn s.old key place row.page row.cell (delta_entry t.now at) result s.new }
 {
     let n = units(s);
     let lacking = lack_of_more(s, n);
@@ -155,7 +136,7 @@ pub fn delta_in(
         return lacking;
     }
     let m = delta_marks(t, at);
-    let b = insert(s, n, layout::WIDTH, false, page, i, place, key, m);
+    let b = insert::<WIDTH, PARTS>(s, n, row, place, key, m);
     put_words(s, b, t, at, layout::SHORTCUT);
     0
 }
@@ -163,7 +144,7 @@ pub fn delta_in(
 // A write put where its entry was looked for. Only an insertion counts the units held.
 pub fn put_write(
     s: &mut [u32],
-    found: Found,
+    found: Result<Place, Place>,
     key: u32,
     place: u32,
     incarnation: u32,
@@ -176,18 +157,23 @@ pub fn put_write(
     ensures put { Put s.old key place found (rule.done (rule.write incarnation (value_at at t.now))) result s.new }
 {
     match found {
-        Found::There(page, i) => {
-            write_over(s, page, i, incarnation, t, at);
-            return 0;
+        Ok(row) => {
+            write_over(s, row, incarnation, t, at);
+            0
         }
-        Found::Absent(page, i) => {
-            return write_in(s, key, place, page, i, incarnation, t, at);
-        }
+        Err(row) => write_in(s, key, place, row, incarnation, t, at),
     }
 }
 
 // A delta put where its entry was looked for.
-pub fn put_delta(s: &mut [u32], found: Found, key: u32, place: u32, t: &[u32], at: usize) -> u32
+pub fn put_delta(
+    s: &mut [u32],
+    found: Result<Place, Place>,
+    key: u32,
+    place: u32,
+    t: &[u32],
+    at: usize,
+) -> u32
     requires valid { data_valid s.old ≡ true }
     requires found { FoundIn s.old key place found }
     requires inside { at + delta_width ≤ length t.now }
@@ -195,12 +181,10 @@ pub fn put_delta(s: &mut [u32], found: Found, key: u32, place: u32, t: &[u32], a
     ensures put { Put s.old key place found (delta_entry t.now at) result s.new }
 {
     match found {
-        Found::There(page, i) => {
-            delta_over(s, page, i, t, at);
-            return 0;
+        Ok(row) => {
+            delta_over(s, row, t, at);
+            0
         }
-        Found::Absent(page, i) => {
-            return delta_in(s, key, place, page, i, t, at);
-        }
+        Err(row) => delta_in(s, key, place, row, t, at),
     }
 }

@@ -7,11 +7,13 @@ ghost use Rattle.versioned_data.specs.Layout.{payload_width, content_width, row_
 ghost use Rattle.versioned_data.specs.Rows.{rows_of, position_in};
 ghost use Rattle.versioned_data.specs.Test.{side_test, write_test, delta_test, marks_test};
 
-use crate::layout::WIDTH;
+use crate::layout::{DataRows, PARTS, WIDTH};
 use crate::walk::read_op;
+use directory::cells::Place;
 use moves::all_zero;
-use store::read;
+use store::read::Rows;
 use store::scan::is_store;
+use types::units::units;
 use types::value::{ValueWithLayout, value_ok};
 
 // Whether the write at b may stand at a place: at the base, incarnation 0 and done; above it, exchanged.
@@ -77,14 +79,16 @@ fn content_ok(s: &[u32], b: usize, place: u32, marks: u32) -> bool
 }
 
 // Whether a row is that of a fine entry.
-fn row_ok(s: &[u32], n: usize, page: usize, cell: usize) -> bool
+// Kept: words and units as two parameters here, since a view over the words does not tell the proof that each of them is below 2^32.
+fn row_ok(s: &[u32], n: usize, at: Place) -> bool
     requires valid { Valid payload_width false n s.now }
-    requires there { There payload_width n s.now page cell }
-    ensures row { result ≡ row_ok (get_or (rows_of n s.now) (position_in n s.now page cell) no_row) }
+    requires there { There payload_width n s.now at.page at.cell }
+    ensures row { result ≡ row_ok (get_or (rows_of n s.now) (position_in n s.now at.page at.cell) no_row) }
 {
-    let b = read::content_at(s, n, WIDTH, false, page, cell);
-    let place = read::place_at(s, n, WIDTH, false, page, cell);
-    content_ok(s, b, place, read::marks_at(s, n, WIDTH, false, page, cell))
+    let rows: DataRows = Rows { words: s, units: n };
+    let b = rows.content_at(at);
+    let place = rows.place_at(at);
+    content_ok(s, b, place, rows.marks_at(at))
 }
 
 // Whether each row is, one after the other.
@@ -92,12 +96,13 @@ fn rows_ok(s: &[u32], n: usize) -> bool
     requires valid { Valid payload_width false n s.now }
     ensures rows { result ≡ every row_ok (rows_of n s.now) }
 {
-    let mut at = read::cell_after(s, n, WIDTH, false, 0, 0);
-    while at.is {
-        if !row_ok(s, n, at.page, at.cell) {
+    let rows: DataRows = Rows { words: s, units: n };
+    let mut at = rows.cell_after(Place { page: 0, cell: 0 });
+    while let Some(p) = at {
+        if !row_ok(s, n, p) {
             return false;
         }
-        at = read::next(s, n, WIDTH, false, at.page, at.cell);
+        at = rows.next(p);
     }
     true
 }
@@ -106,10 +111,10 @@ fn rows_ok(s: &[u32], n: usize) -> bool
 pub fn is_valid(s: &[u32]) -> bool
     ensures valid { result ≡ data_valid s.now }
 {
-    if !is_store(s, WIDTH, false) {
+    if !is_store::<WIDTH, PARTS>(s) {
         return false;
     }
-    let n = read::units(s);
+    let n = units(s);
     if n == 0 {
         return true;
     }

@@ -1,54 +1,48 @@
 // The walk of `VersionedValue::read` down the rows of a key.
-ghost use Rattle.std.specs.Prelude.{◌≡◌, true, false, [], ◌∷◌, ◌++◌, ◌+◌, ◌-◌, ◌%◌, ◌≤◌, length, get_or, take, drop};
+ghost use Rattle.std.specs.Prelude.{◌≡◌, true, false, [], ◌∷◌, ◌++◌, IfSome, IfNone, Ok, ◌+◌, ◌-◌, ◌%◌, ◌≤◌, length, get_or, take, drop};
+ghost use Rattle.lists.specs.Lists.{every};
 ghost use Rattle.number.specs.Number.{value_of};
-ghost use Rattle.delta.specs.Delta.{accumulate, valid_so_far};
+ghost use Rattle.delta.specs.Delta.{accumulate};
 ghost use Rattle.delta.specs.Op.{exactly, accumulator_of, op_at};
 ghost use Rattle.types.specs.Index.{word_of};
 ghost use Rattle.types.specs.Value.{value_at};
 ghost use Rattle.types.specs.ValueWithLayout.{words_of};
-ghost use Rattle.store.specs.Held.{no_row};
 ghost use Rattle.store.specs.Valid.{There};
-ghost use Rattle.model.specs.Data.{at_end, onto, below_deltas, at_write, dependency, versioned, read_of};
-ghost use Rattle.versioned_data.specs.Layout.{payload_width, delta_in};
-ghost use Rattle.versioned_data.specs.Down.{down_rows};
-ghost use Rattle.versioned_data.specs.Rows.{rows_of, DataStore, position_in, Met};
-ghost use Rattle.versioned_data.specs.Step.{no_marks, marks_met, deltas_in, stopped};
+ghost use Rattle.model.specs.Data.{at_end, onto, below_deltas, at_write, dependency, versioned, walk, read_of};
+ghost use Rattle.versioned_data.specs.Layout.{payload_width, delta_in, entry_of, row_ok};
+ghost use Rattle.versioned_data.specs.Rows.{rows_of, row_of_place, Met, position_from, down_place, OfKey};
+ghost use Rattle.versioned_data.specs.Step.{has_key, deltas_in};
 ghost use Rattle.versioned_data.specs.Output.{output_of};
 
-use crate::layout::WIDTH;
-use delta::{Accumulator, Applied, DeltaOp};
-use directory::search::Spot;
+use crate::layout::DataRows;
+use delta::{Accumulator, DeltaOp, ValidDelta};
+use directory::cells::Place;
 use number::Number;
-use store::read;
-use types::index::{IndexOrStorage, ShiftedTxnIndex};
+use types::index::ShiftedTxnIndex;
 use types::output::MVDataOutput;
-use types::value::{AsU128, ValueWithLayout};
-
-// The marks of no row: no row of the key is left.
-const NO_MARKS: u32 = 3;
+use types::refusal::Refusal;
+use types::value::ValueWithLayout;
 
 // What the walk finds where no entry is left.
 fn at_end(acc: Accumulator) -> MVDataOutput
-    requires canonical { acc ≡ accumulator_of (exactly acc) }
-    ensures end { result ≡ output_of (at_end (exactly acc)) }
+    ensures end { Ok result ≡ output_of (at_end (exactly acc)) }
 {
     match acc {
         Accumulator::Empty => MVDataOutput::Uninitialized,
-        Accumulator::Gathered(op) => MVDataOutput::Unresolved(op),
+        Accumulator::Gathered(delta) => MVDataOutput::Unresolved(DeltaOp::from(delta)),
         Accumulator::Failed => MVDataOutput::DeltaApplicationFailure,
     }
 }
 
 // A number below the deltas of the walk.
 fn onto(acc: Accumulator, n: Number) -> MVDataOutput
-    requires valid { valid_so_far (exactly acc) ≡ true }
-    ensures resolved { result ≡ output_of (onto (exactly acc) (value_of n)) }
+    ensures resolved { Ok result ≡ output_of (onto (exactly acc) (value_of n)) }
 {
     match acc {
         Accumulator::Empty => MVDataOutput::Resolved(n),
-        Accumulator::Gathered(op) => match op.apply_to(n) {
-            Applied::Value(v) => MVDataOutput::Resolved(v),
-            Applied::Outside => MVDataOutput::DeltaApplicationFailure,
+        Accumulator::Gathered(delta) => match delta.apply_to(n) {
+            Some(v) => MVDataOutput::Resolved(v),
+            None => MVDataOutput::DeltaApplicationFailure,
         },
         Accumulator::Failed => MVDataOutput::DeltaApplicationFailure,
     }
@@ -60,34 +54,30 @@ fn below_deltas(
     at: ShiftedTxnIndex,
     incarnation: u32,
     v: ValueWithLayout,
-) -> MVDataOutput
-    requires valid { valid_so_far (exactly acc) ≡ true }
+) -> Result<MVDataOutput, Refusal>
     ensures below { result ≡ output_of (below_deltas (exactly acc) (word_of at) incarnation (words_of v)) }
 {
     if v.has_layout() {
-        return MVDataOutput::LayoutUnderDelta;
+        return Err(Refusal::LayoutUnderDelta);
     }
     match v.as_u128() {
-        AsU128::Deleted => MVDataOutput::Versioned(at, incarnation, v),
-        AsU128::Value(n) => onto(acc, n),
-        AsU128::NotANumber => MVDataOutput::NoNumberUnderDelta,
+        Ok(None) => Ok(MVDataOutput::Versioned(at, incarnation, v)),
+        Ok(Some(n)) => Ok(onto(acc, n)),
+        Err(_) => Err(Refusal::NoNumberUnderDelta),
     }
 }
 
 // An estimate in the way: the walk waits for its transaction.
 fn dependency(at: ShiftedTxnIndex) -> MVDataOutput
-    ensures waits { result ≡ output_of (dependency (word_of at - 1)) }
+    ensures waits { Ok result ≡ output_of (dependency (word_of at - 1)) }
 {
-    match at.idx() {
-        IndexOrStorage::Index(index) => MVDataOutput::Dependency(index),
-        IndexOrStorage::StorageVersion => MVDataOutput::Dependency(0),
-    }
+    MVDataOutput::Dependency(at.idx().unwrap_or(0))
 }
 
 // The write whose content is at b, with no delta above it.
 fn versioned(s: &[u32], b: usize, at: ShiftedTxnIndex) -> MVDataOutput
     requires inside { b + 20 ≤ length s.now }
-    ensures write { result ≡ output_of (versioned (word_of at) (get_or s.now b 0) (value_at (b + 1) s.now)) }
+    ensures write { Ok result ≡ output_of (versioned (word_of at) (get_or s.now b 0) (value_at (b + 1) s.now)) }
 {
     let incarnation = s[b];
     let value = ValueWithLayout::read(s, b + 1);
@@ -95,9 +85,13 @@ fn versioned(s: &[u32], b: usize, at: ShiftedTxnIndex) -> MVDataOutput
 }
 
 // The write whose content is at b, with the deltas of the walk above it.
-fn at_write(s: &[u32], b: usize, at: ShiftedTxnIndex, acc: Accumulator) -> MVDataOutput
+fn at_write(
+    s: &[u32],
+    b: usize,
+    at: ShiftedTxnIndex,
+    acc: Accumulator,
+) -> Result<MVDataOutput, Refusal>
     requires inside { b + 20 ≤ length s.now }
-    requires valid { valid_so_far (exactly acc) ≡ true }
     ensures write { result
         ≡ output_of
         (at_write (exactly acc) (word_of at) (get_or s.now b 0) (value_at (b + 1) s.now)) }
@@ -105,7 +99,7 @@ fn at_write(s: &[u32], b: usize, at: ShiftedTxnIndex, acc: Accumulator) -> MVDat
     let incarnation = s[b];
     let v = ValueWithLayout::read(s, b + 1);
     match acc {
-        Accumulator::Empty => MVDataOutput::Versioned(at, incarnation, v),
+        Accumulator::Empty => Ok(MVDataOutput::Versioned(at, incarnation, v)),
         Accumulator::Gathered(_) => below_deltas(acc, at, incarnation, v),
         Accumulator::Failed => below_deltas(acc, at, incarnation, v),
     }
@@ -130,113 +124,110 @@ pub fn read_op(s: &[u32], b: usize, sign: u32) -> DeltaOp
     }
 }
 
-// The marks of the row at a place, if there is one and it has the key.
-pub fn marks_met(s: &[u32], n: usize, key: u32, page: usize, cell: usize, is: bool) -> u32
-    requires store { DataStore n s.now }
-    requires met { Met n s.now page cell is }
-    ensures marks { result ≡ marks_met key (position_in n s.now page cell) (rows_of n s.now) }
-{
-    if !is {
-        return NO_MARKS;
-    }
-    if read::key_at(s, n, WIDTH, false, page, cell) != key {
-        return NO_MARKS;
-    }
-    read::marks_at(s, n, WIDTH, false, page, cell)
+// A store of fine entries, for reading.
+#[derive(Clone, Copy)]
+pub struct Entries<'a> {
+    pub rows: DataRows<'a>,
+    ghost fine: { every row_ok (rows_of rows.units rows.words.now) ≡ true },
 }
 
-// What the walk finds where it stops, by the marks that it meets there.
-fn stop(s: &[u32], n: usize, page: usize, cell: usize, marks: u32, acc: Accumulator) -> MVDataOutput
-    requires store { DataStore n s.now }
-    requires there { (marks ≡ no_marks → ⊥) → There payload_width n s.now page cell }
-    requires own { (marks ≡ no_marks → ⊥) → marks ≡ (get_or (rows_of n s.now) (position_in n s.now page cell) no_row).marks }
-    requires stops { marks % 8 ≡ 1 → ⊥ }
-    requires canonical { acc ≡ accumulator_of (exactly acc) }
-    requires valid { valid_so_far (exactly acc) ≡ true }
-    ensures found { result
-        ≡ output_of
-        (stopped (exactly acc) marks (get_or (rows_of n s.now) (position_in n s.now page cell) no_row)) }
-{
-    if marks == NO_MARKS {
-        return at_end(acc);
+impl<'a> Entries<'a> {
+    // The row at a place, if there is one and it has the key.
+    #[inline]
+    pub fn of_key(self, key: u32, at: Option<Place>) -> Option<Place>
+        requires met { Met self.rows.units self.rows.words.now at }
+        ensures met { IfSome result (OfKey self.entry.rows.units self.entry.rows.words.now key (position_from self.entry.rows.units self.entry.rows.words.now at)) }
+        ensures other { IfNone result (has_key key (position_from self.entry.rows.units self.entry.rows.words.now at) (rows_of self.entry.rows.units self.entry.rows.words.now) ≡ false) }
+    {
+        let Some(p) = at else {
+            return None;
+        };
+        if self.rows.key_at(p) != key {
+            return None;
+        }
+        Some(p)
     }
-    let b = read::content_at(s, n, WIDTH, false, page, cell);
-    let at = ShiftedTxnIndex::from_word(read::place_at(s, n, WIDTH, false, page, cell));
-    if marks / 4 % 2 == 1 {
-        return dependency(at);
-    }
-    if marks == 0 {
-        return at_write(s, b, at, acc);
-    }
-    onto(acc, number::words::read(s, b + 16))
-}
 
-// What the walk has gathered past a done delta without a shortcut.
-fn past(s: &[u32], n: usize, page: usize, cell: usize, marks: u32, acc: Accumulator) -> Accumulator
-    requires store { DataStore n s.now }
-    requires there { There payload_width n s.now page cell }
-    requires own { marks ≡ (get_or (rows_of n s.now) (position_in n s.now page cell) no_row).marks }
-    requires delta { marks % 8 ≡ 1 }
-    requires valid { valid_so_far (exactly acc) ≡ true }
-    ensures gathered { result
-        ≡ accumulator_of
-        (accumulate (exactly acc) (delta_in (get_or (rows_of n s.now) (position_in n s.now page cell) no_row))) }
-{
-    let b = read::content_at(s, n, WIDTH, false, page, cell);
-    let earlier = read_op(s, b, marks / 8);
-    acc.accumulate(earlier)
-}
-
-// How many done deltas without a shortcut a walk meets from a place down, while the key is the same, and those met before: the shifted index falls at
-// each call.
-fn deltas(s: &[u32], n: usize, key: u32, page: usize, cell: usize, is: bool, met: usize) -> usize
-    requires store { DataStore n s.now }
-    requires met { Met n s.now page cell is }
-    requires few { met ≤ position_in n s.now page cell }
-    ensures deltas { result ≡ met + deltas_in (down_rows key (position_in n s.now page cell) (rows_of n s.now)) }
-{
-    if marks_met(s, n, key, page, cell, is) % 8 != 1 {
-        return met;
+    // What the walk finds at a row where it stops.
+    fn stop(self, at: Place, acc: Accumulator) -> Result<MVDataOutput, Refusal>
+        requires there { There payload_width self.rows.units self.rows.words.now at.page at.cell }
+        requires stops { (row_of_place self.rows.units self.rows.words.now at).marks % 8 ≡ 1 → ⊥ }
+        ensures found { result ≡ output_of (walk (exactly acc) (entry_of (row_of_place self.entry.rows.units self.entry.rows.words.now at) ∷ [])) }
+    {
+        let marks = self.rows.marks_at(at);
+        let b = self.rows.content_at(at);
+        let place = ShiftedTxnIndex::from_word(self.rows.place_at(at));
+        if marks / 4 % 2 == 1 {
+            return Ok(dependency(place));
+        }
+        if marks == 0 {
+            return at_write(self.rows.words, b, place, acc);
+        }
+        Ok(onto(acc, number::words::read(self.rows.words, b + 16)))
     }
-    let to = read::next(s, n, WIDTH, false, page, cell);
-    deltas(s, n, key, to.page, to.cell, to.is, met + 1)
-}
 
-// The walk from a place down: past the deltas, which are merged one after the other, to where it stops.
-pub fn walk(s: &[u32], n: usize, key: u32, page: usize, cell: usize, is: bool) -> MVDataOutput
-    requires store { DataStore n s.now }
-    requires met { Met n s.now page cell is }
-    ensures found { result
-        ≡ output_of (read_of (down_rows key (position_in n s.now page cell) (rows_of n s.now))) }
-{
-    let mut rest = deltas(s, n, key, page, cell, is, 0);
-    let mut at = Spot {
-        page: page,
-        cell: cell,
-        is: is,
-    };
-    let mut acc = Accumulator::Empty;
-    while 0 < rest {
-        let marks = read::marks_at(s, n, WIDTH, false, at.page, at.cell);
-        acc = past(s, n, at.page, at.cell, marks, acc);
-        at = read::next(s, n, WIDTH, false, at.page, at.cell);
-        rest -= 1;
+    // What the walk has gathered past a done delta without a shortcut.
+    fn past(self, at: Place, acc: Accumulator) -> Accumulator
+        requires there { There payload_width self.rows.units self.rows.words.now at.page at.cell }
+        requires delta { (row_of_place self.rows.units self.rows.words.now at).marks % 8 ≡ 1 }
+        ensures gathered { result ≡ accumulator_of (accumulate (exactly acc) (delta_in (row_of_place self.entry.rows.units self.entry.rows.words.now at))) }
+    {
+        let marks = self.rows.marks_at(at);
+        let b = self.rows.content_at(at);
+        let earlier = read_op(self.rows.words, b, marks / 8);
+        acc.accumulate(ValidDelta::new(earlier))
     }
-    let marks = marks_met(s, n, key, at.page, at.cell, at.is);
-    stop(s, n, at.page, at.cell, marks, acc)
-}
 
-// The walk with nothing gathered. Nearly every read ends at a write right there, which is answered without the walk's accumulator.
-pub fn read_from(s: &[u32], n: usize, key: u32, page: usize, cell: usize, is: bool) -> MVDataOutput
-    requires store { DataStore n s.now }
-    requires met { Met n s.now page cell is }
-    ensures found { result
-        ≡ output_of (read_of (down_rows key (position_in n s.now page cell) (rows_of n s.now))) }
-{
-    if marks_met(s, n, key, page, cell, is) != 0 {
-        return walk(s, n, key, page, cell, is);
+    // How many done deltas without a shortcut a walk meets from a place down, while the key is the same, and those met before: the shifted index falls at
+    // each call.
+    fn deltas(self, key: u32, at: Option<Place>, met: usize) -> usize
+        requires met { Met self.rows.units self.rows.words.now at }
+        requires few { met ≤ position_from self.rows.units self.rows.words.now at }
+        ensures deltas { result ≡ met + deltas_in (down_place self.entry.rows.units self.entry.rows.words.now key at) }
+    {
+        let Some(p) = self.of_key(key, at) else {
+            return met;
+        };
+        if self.rows.marks_at(p) % 8 != 1 {
+            return met;
+        }
+        self.deltas(key, self.rows.next(p), met + 1)
     }
-    let b = read::content_at(s, n, WIDTH, false, page, cell);
-    let at = ShiftedTxnIndex::from_word(read::place_at(s, n, WIDTH, false, page, cell));
-    versioned(s, b, at)
+
+    // The walk from a place down: past the deltas, which are merged one after the other, to where it stops.
+    pub fn walk(self, key: u32, start: Option<Place>) -> Result<MVDataOutput, Refusal>
+        requires met { Met self.rows.units self.rows.words.now start }
+        ensures found { result ≡ output_of (read_of (down_place self.entry.rows.units self.entry.rows.words.now key start)) }
+    {
+        let rest = self.deltas(key, start, 0);
+        let mut at = start;
+        let mut acc = Accumulator::Empty;
+        for _i in 0..rest {
+            let Some(p) = at else {
+                unreachable!();
+            };
+            acc = self.past(p, acc);
+            at = self.rows.next(p);
+        }
+        match self.of_key(key, at) {
+            None => Ok(at_end(acc)),
+            Some(p) => self.stop(p, acc),
+        }
+    }
+
+    // The walk with nothing gathered. Nearly every read ends at a write right there, which is answered without the walk's accumulator.
+    pub fn read_from(self, key: u32, at: Option<Place>) -> Result<MVDataOutput, Refusal>
+        requires met { Met self.rows.units self.rows.words.now at }
+        ensures found { result ≡ output_of (read_of (down_place self.entry.rows.units self.entry.rows.words.now key at)) }
+    {
+        let Some(row) = self.of_key(key, at) else {
+            return Ok(MVDataOutput::Uninitialized);
+        };
+        if self.rows.marks_at(row) != 0 {
+            return self.walk(key, at);
+        }
+        let b = self.rows.content_at(row);
+        let place = ShiftedTxnIndex::from_word(self.rows.place_at(row));
+        Ok(versioned(self.rows.words, b, place))
+    }
 }

@@ -1,11 +1,13 @@
-use borrow.Author.Rules.{rules}
+use mathlib.Core.Path.{sym, ◌∙◌}
+use native.Mathlib.Omega.{arith}
+use borrow.Author.Tests.{eqb-true}
 use Rattle.request.proofs.Shapes.{row_of_lem}
 use Rattle.request.proofs.CheckAnswers.{shape_whole, shape_true, check_empty, check_shape, check_fields, check_index, check_accepted}
 use Rattle.request.proofs.check.Goals as goal
 
-pub returns-then-t-eq0 : goal.returns-then-t-eq0
-returns-then-t-eq0 c =
-    record { checked = check_empty _ (search rules) }
+pub returns-then-is_empty : goal.returns-then-is_empty
+returns-then-is_empty c =
+    record { checked = check_empty _ (omega (arith, eqb-true _ 0 (sym c.is_empty.ensures ∙ c.if-is_empty.true))) }
 
 pub shape_ok-requires : goal.shape_ok-requires
 shape_ok-requires c =

@@ -6,11 +6,11 @@ use mathlib.Core.Path.{refl}
 use Rattle.directory.proofs.Editing.{opened}
 use Rattle.directory.proofs.cells.open_cell.Goals as goal
 
-pub bounds-s-at-2 : goal.bounds-s-at-2
-bounds-s-at-2 c = simp length-set (omega arith)
+pub bounds-s-to-2 : goal.bounds-s-to-2
+bounds-s-to-2 c = simp length-set (omega arith)
 
-pub bounds-s-at-3 : goal.bounds-s-at-3
-bounds-s-at-3 c = simp length-set (omega arith)
+pub bounds-s-to-3 : goal.bounds-s-to-3
+bounds-s-to-3 c = simp length-set (omega arith)
 
 pub bounds-s-a-2 : goal.bounds-s-a-2
 bounds-s-a-2 c = simp length-set (omega arith)

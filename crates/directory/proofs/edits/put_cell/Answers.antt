@@ -6,7 +6,8 @@ use Rattle.directory.proofs.edits.put_cell.Goals as goal
 
 pub put_full-requires : goal.put_full-requires
 put_full-requires c =
-    record { directory = (full_ready _ _ _ _ _ _ _ c.requires.directory c.requires.stands c.requires.free c.requires.order c.requires.few c.room-r.ensures.room (omega arith)).0; many = (full_ready _ _ _ _ _ _ _ c.requires.directory c.requires.stands c.requires.free c.requires.order c.requires.few c.room-r.ensures.room (omega arith)).1.0; few = (full_ready _ _ _ _ _ _ _ c.requires.directory c.requires.stands c.requires.free c.requires.order c.requires.few c.room-r.ensures.room (omega arith)).1.1.0; stands = (full_ready _ _ _ _ _ _ _ c.requires.directory c.requires.stands c.requires.free c.requires.order c.requires.few c.room-r.ensures.room (omega arith)).1.1.1.0; full = (full_ready _ _ _ _ _ _ _ c.requires.directory c.requires.stands c.requires.free c.requires.order c.requires.few c.room-r.ensures.room (omega arith)).1.1.1.1.0; free = (full_ready _ _ _ _ _ _ _ c.requires.directory c.requires.stands c.requires.free c.requires.order c.requires.few c.room-r.ensures.room (omega arith)).1.1.1.1.1.0; order = (full_ready _ _ _ _ _ _ _ c.requires.directory c.requires.stands c.requires.free c.requires.order c.requires.few c.room-r.ensures.room (omega arith)).1.1.1.1.1.1 }
+    let r = full_ready _ _ _ _ _ _ _ c.requires.directory c.requires.stands c.requires.free c.requires.order c.requires.few c.room-r.ensures.room (omega arith) in
+    record { directory = r.0; many = r.1.0; few = r.1.1.0; stands = r.1.1.1.0; full = r.1.1.1.1.0; free = r.1.1.1.1.1.0; order = r.1.1.1.1.1.1 }
 
 pub returns-then-r-word : goal.returns-then-r-word
 returns-then-r-word c =
@@ -14,7 +15,8 @@ returns-then-r-word c =
 
 pub open_cell-requires : goal.open_cell-requires
 open_cell-requires c =
-    record { laid = (put_ready _ _ _ _ _ _ _ c.requires.directory c.requires.stands c.requires.free c.requires.order c.requires.few c.room-r.ensures.room (omega arith)).0; page = (put_ready _ _ _ _ _ _ _ c.requires.directory c.requires.stands c.requires.free c.requires.order c.requires.few c.room-r.ensures.room (omega arith)).1.0; fits = (put_ready _ _ _ _ _ _ _ c.requires.directory c.requires.stands c.requires.free c.requires.order c.requires.few c.room-r.ensures.room (omega arith)).1.1.0; free = (put_ready _ _ _ _ _ _ _ c.requires.directory c.requires.stands c.requires.free c.requires.order c.requires.few c.room-r.ensures.room (omega arith)).1.1.1 }
+    let r = put_ready _ _ _ _ _ _ _ c.requires.directory c.requires.stands c.requires.free c.requires.order c.requires.few c.room-r.ensures.room (omega arith) in
+    record { laid = r.0; page = r.1.0; fits = r.1.1.0; free = r.1.1.1 }
 
 pub returns : goal.returns
 returns c =

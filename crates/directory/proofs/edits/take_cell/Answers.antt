@@ -6,7 +6,8 @@ use Rattle.directory.proofs.edits.take_cell.Goals as goal
 
 pub close_cell-requires : goal.close_cell-requires
 close_cell-requires c =
-    record { laid = (close_ready _ _ _ _ _ _ c.requires.directory c.requires.there c.room.ensures.room).0; page = (close_ready _ _ _ _ _ _ c.requires.directory c.requires.there c.room.ensures.room).1.0; fits = (close_ready _ _ _ _ _ _ c.requires.directory c.requires.there c.room.ensures.room).1.1.0; few = (close_ready _ _ _ _ _ _ c.requires.directory c.requires.there c.room.ensures.room).1.1.1 }
+    let r = close_ready _ _ _ _ _ _ c.requires.directory c.requires.there c.room.ensures.room in
+    record { laid = r.0; page = r.1.0; fits = r.1.1.0; few = r.1.1.1 }
 
 pub returns-then-word-gt0 : goal.returns-then-word-gt0
 returns-then-word-gt0 c =
@@ -18,7 +19,8 @@ returns-then-word-eq0 c =
 
 pub close_page-requires : goal.close_page-requires
 close_page-requires c =
-    record { wide = (out_ready _ _ _ _ _ _ c.requires.directory c.requires.there c.room.ensures.room _ c.close_cell.ensures.closed (omega arith) (omega arith)).0; inside = (out_ready _ _ _ _ _ _ c.requires.directory c.requires.there c.room.ensures.room _ c.close_cell.ensures.closed (omega arith) (omega arith)).1.0; more = (out_ready _ _ _ _ _ _ c.requires.directory c.requires.there c.room.ensures.room _ c.close_cell.ensures.closed (omega arith) (omega arith)).1.1 }
+    let r = out_ready _ _ _ _ _ _ c.requires.directory c.requires.there c.room.ensures.room _ c.close_cell.ensures.closed (omega arith) (omega arith) in
+    record { wide = r.0; inside = r.1.0; more = r.1.1 }
 
 pub returns : goal.returns
 returns c =

@@ -3,19 +3,19 @@
 use Rattle.directory.proofs.Positions.{after_here, after_none, after_page}
 use Rattle.directory.proofs.search.cell_after.Goals as goal
 
-pub returns-then-cell-word : goal.returns-then-cell-word
-returns-then-cell-word c =
-    let r = after_here _ _ _ c.requires.directory _ _ c.requires.stands _ c.word.ensures.same c.if-cell-word.true in
-    record { stands = r.0; place = r.1.0; there = r.1.1.0; last = r.1.1.1 }
+pub returns-then-at-word : goal.returns-then-at-word
+returns-then-at-word c =
+    let r = after_here _ _ _ c.requires.directory _ c.requires.stands _ c.word.ensures.same c.if-at-word.true in
+    record { there = r.0; place = r.1.0; some = r.1.1 }
 
-pub returns-then-word-page : goal.returns-then-word-page
-returns-then-word-page c =
-    let r = after_none _ _ _ c.requires.directory _ _ c.requires.stands _ _
-    c.word.ensures.same c.if-cell-word.false c.word-2.ensures.same c.if-word-page.true in
-    record { stands = r.0; place = r.1.0; there = r.1.1.0; last = r.1.1.1 }
+pub returns-then-word-at : goal.returns-then-word-at
+returns-then-word-at c =
+    let r = after_none _ _ _ c.requires.directory _ c.requires.stands _ _
+    c.word.ensures.same c.if-at-word.false c.word-2.ensures.same c.if-word-at.true in
+    record { there = r.0; place = r.1.0; some = r.1.1 }
 
 pub returns : goal.returns
 returns c =
-    let r = after_page _ _ _ c.requires.directory _ _ c.requires.stands _ _
-    c.word.ensures.same c.if-cell-word.false c.word-2.ensures.same c.if-word-page.false in
-    record { stands = r.0; place = r.1.0; there = r.1.1.0; last = r.1.1.1 }
+    let r = after_page _ _ _ c.requires.directory _ c.requires.stands _ _
+    c.word.ensures.same c.if-at-word.false c.word-2.ensures.same c.if-word-at.false in
+    record { there = r.0; place = r.1.0; some = r.1.1 }

@@ -1,12 +1,17 @@
 -- `request::head::head_of` meets its contract.
 -- Assumes nothing.
-use Rattle.request.proofs.Shapes.{kind_lt, head_is}
+use mathlib.Core.Path.{ap, ◌∙◌}
+use Rattle.request.specs.Table.{kind_of}
+use Rattle.request.proofs.Shapes.{kind_lt, kind_few, head_is}
 use Rattle.request.proofs.head.head_of.Goals as goal
 
-pub row_of-row-requires : goal.row_of-row-requires
-row_of-row-requires c =
-    record { four_bits = kind_lt _ _ (c.type_inv.t 0).fits c.kind_in-kind.ensures.kind }
+pub of-kind-requires : goal.of-kind-requires
+of-kind-requires c =
+    record { four_bits = kind_lt _ _ (c.type_inv.t 0).fits c.kind_in.ensures.kind }
 
 pub returns : goal.returns
 returns c =
-    record { head = head_is _ _ _ _ c.kind_in-kind.ensures.kind c.count_in-count.ensures.count c.row_of-row.ensures.row }
+    record {
+      head = head_is _ (kind_few _ (c.type_inv.t 0).fits) _ _ _ (c.of-kind.ensures.kind ∙ ap kind_of c.kind_in.ensures.kind)
+          c.count_in-count.ensures.count c.row_of-row.ensures.row;
+    }

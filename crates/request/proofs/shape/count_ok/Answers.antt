@@ -1,10 +1,12 @@
+use mathlib.Core.Path.{◌∙◌}
 use native.Mathlib.Omega.{arith}
-use Rattle.request.proofs.Shapes.{row_of_lem, counts_alone, set_fits, counts_set, counts_absent}
+use borrow.Author.Tests.{lt-leb}
+use Rattle.request.proofs.Shapes.{row_of_lem, counter_inside, counts_alone, set_fits, counts_set, counts_over, counted_fits, counts_counted, counts_absent}
 use Rattle.request.proofs.shape.count_ok.Goals as goal
 
-pub returns-then-form-eq-ALONE : goal.returns-then-form-eq-ALONE
-returns-then-form-eq-ALONE c =
-    record { rule = counts_alone _ _ c.requires.head c.if-form-eq-ALONE.true }
+pub returns-in-Alone : goal.returns-in-Alone
+returns-in-Alone c =
+    record { rule = counts_alone _ _ c.requires.head c.in-Alone.is }
 
 pub set_at-requires : goal.set_at-requires
 set_at-requires c =
@@ -12,24 +14,32 @@ set_at-requires c =
 
 pub overflow_mul-result : goal.overflow_mul-result
 overflow_mul-result c =
-    record { fits = omega (arith, set_fits _ _ c.requires.head c.if-form-eq-BY_SET.true _ c.set_at.ensures.set _ c.len.ensures.counted) }
+    record { fits = omega (arith, set_fits _ _ c.requires.head _ c.in-BySet.is _ c.set_at.ensures.set _ c.len.ensures.counted) }
 
 pub overflow_add-result : goal.overflow_add-result
 overflow_add-result c =
-    record { fits = omega (arith, set_fits _ _ c.requires.head c.if-form-eq-BY_SET.true _ c.set_at.ensures.set _ c.len.ensures.counted) }
+    record { fits = omega (arith, set_fits _ _ c.requires.head _ c.in-BySet.is _ c.set_at.ensures.set _ c.len.ensures.counted) }
 
-pub returns-then-form-eq-BY_SET : goal.returns-then-form-eq-BY_SET
-returns-then-form-eq-BY_SET c =
-    record { rule = counts_set _ _ c.requires.head c.if-form-eq-BY_SET.true _ c.set_at.ensures.set _ c.len.ensures.counted }
+pub returns-in-BySet : goal.returns-in-BySet
+returns-in-BySet c =
+    record { rule = counts_set _ _ c.requires.head _ c.in-BySet.is _ c.set_at.ensures.set _ c.len.ensures.counted }
 
-pub counted_ok-requires : goal.counted_ok-requires
-counted_ok-requires c =
-    record { head = c.requires.head; whole = c.requires.whole; form = c.if-form-eq-BY_COUNT.true }
+pub bounds-t-place : goal.bounds-t-place
+bounds-t-place c =
+    counter_inside _ _ (row_of_lem _ _ c.requires.head) c.requires.whole _ _ _ c.in-ByCount.is
 
-pub returns-then-form-eq-BY_COUNT : goal.returns-then-form-eq-BY_COUNT
-returns-then-form-eq-BY_COUNT c =
-    record { rule = c.counted_ok.ensures.rule }
+pub overflow_add-result-then-times-most : goal.overflow_add-result-then-times-most
+overflow_add-result-then-times-most c =
+    record { fits = omega (arith, counted_fits _ _ c.requires.head _ _ _ c.in-ByCount.is c.if-times-most.true) }
 
-pub returns : goal.returns
-returns c =
-    record { rule = counts_absent _ _ c.requires.head c.if-form-eq-ALONE.false c.if-form-eq-BY_SET.false c.if-form-eq-BY_COUNT.false }
+pub returns-then-times-most : goal.returns-then-times-most
+returns-then-times-most c =
+    record { rule = counts_counted _ _ c.requires.head _ _ _ c.in-ByCount.is c.if-times-most.true }
+
+pub returns-else-times-most : goal.returns-else-times-most
+returns-else-times-most c =
+    record { rule = lt-leb _ _ c.if-times-most.false ∙ counts_over _ _ c.requires.head _ _ _ c.in-ByCount.is c.if-times-most.false }
+
+pub returns-in-Absent : goal.returns-in-Absent
+returns-in-Absent c =
+    record { rule = counts_absent _ _ c.requires.head c.in-Absent.is }

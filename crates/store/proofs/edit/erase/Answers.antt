@@ -6,30 +6,29 @@ use native.Mathlib.Omega.{arith}
 use Rattle.store.proofs.edit.erase.Goals as goal
 
 pub overflow_sub-l : goal.overflow_sub-l
-overflow_sub-l c =
+overflow_sub-l g c =
     omega (arith, one_held _ _ _ _ _ _ c.requires.valid c.requires.there)
 
 pub erase_last-requires : goal.erase_last-requires
-erase_last-requires c =
+erase_last-requires g c =
     record { valid = c.requires.valid; there = c.requires.there; last = one_held _ _ _ _ _ _ c.requires.valid c.requires.there; own = sym c.number_at-q.ensures.word ∙ c.if-q-l.true }
 
-pub owner_of-p-requires : goal.owner_of-p-requires
-owner_of-p-requires c =
+pub owner_of-other-requires : goal.owner_of-other-requires
+owner_of-other-requires g c =
     record {
       valid = c.requires.valid;
       used = omega (arith, one_held _ _ _ _ _ _ c.requires.valid c.requires.there);
-      some = omega
-          (arith, other_less _ _ _ _ _ _ c.requires.valid c.requires.there _ c.number_at-q.ensures.word c.if-q-l.false);
+      some = omega (arith, other_less _ _ _ _ _ _ c.requires.valid c.requires.there _ c.number_at-q.ensures.word c.if-q-l.false);
     }
 
 pub erase_moved-requires : goal.erase_moved-requires
-erase_moved-requires c =
+erase_moved-requires g c =
     record {
       valid = c.requires.valid;
       there = c.requires.there;
       last = one_held _ _ _ _ _ _ c.requires.valid c.requires.there;
-      among = c.owner_of-p.ensures.there;
-      owns = c.owner_of-p.ensures.owns;
+      among = c.owner_of-other.ensures.there;
+      owns = c.owner_of-other.ensures.owns;
       named = c.number_at-q.ensures.word;
       less = other_less _ _ _ _ _ _ c.requires.valid c.requires.there _
           c.number_at-q.ensures.word c.if-q-l.false;

@@ -6,35 +6,35 @@ use native.Mathlib.Omega.{arith}
 use borrow.Author.Rules.{rules}
 use Rattle.store.proofs.edit.erase_last.Goals as goal
 
-pub overflow_mul-width : goal.overflow_mul-width
-overflow_mul-width c =
+pub overflow_mul-l : goal.overflow_mul-l
+overflow_mul-l g c =
     omega (arith, last_end _ _ _ _ _ _ c.requires.valid c.requires.there _ c.requires.last, c.requires.valid.wide)
 
-pub overflow_add-width : goal.overflow_add-width
-overflow_add-width c =
+pub overflow_add-l : goal.overflow_add-l
+overflow_add-l g c =
     omega (arith, last_end _ _ _ _ _ _ c.requires.valid c.requires.there _ c.requires.last, c.requires.valid.wide)
 
 pub drop_payload-requires : goal.drop_payload-requires
-drop_payload-requires c =
+drop_payload-requires g c =
     record { inside = last_end _ _ _ _ _ _ c.requires.valid c.requires.there _ c.requires.last; low = omega arith; some = omega (arith, c.requires.valid.wide) }
 
-pub overflow_mul-width-2 : goal.overflow_mul-width-2
+pub overflow_mul-n : goal.overflow_mul-n
 unfolding base_of
-overflow_mul-width-2 c = search rules
+overflow_mul-n g c = search rules
 
-pub overflow_add-width-2 : goal.overflow_add-width-2
+pub overflow_add-n : goal.overflow_add-n
 unfolding base_of
-overflow_add-width-2 c = search rules
+overflow_add-n g c = search rules
 
 pub take_cell-requires : goal.take_cell-requires
 unfolding base_of
-take_cell-requires c =
+take_cell-requires g c =
     let r = take_last_requires _ _ _ _ _ _ c.requires.valid c.requires.there _ c.requires.last c.requires.own _ c.drop_payload.ensures.dropped in
     record { directory = r.0; there = r.1 }
 
 pub returns : goal.returns
 unfolding base_of
-returns c =
+returns g c =
     record {
       left = take_last _ _ _ _ _ _ c.requires.valid c.requires.there _ c.requires.last c.requires.own _ c.drop_payload.ensures.dropped _
           c.take_cell.ensures.taken;

@@ -10,21 +10,21 @@ use borrow.Author.Rules.{rules}
 use Rattle.store.proofs.edit.erase_moved.Goals as goal
 
 pub overflow_sub-w-2 : goal.overflow_sub-w-2
-overflow_sub-w-2 c =
+overflow_sub-w-2 g c =
     rename_fits _ _ _ _ _ _ c.requires.valid c.requires.there _ c.requires.last _ _ _ _ c.requires.among c.requires.owns c.requires.named c.requires.less
     c.cell_at-a.ensures.word _ (omega arith)
 
-pub overflow_mul-width : goal.overflow_mul-width
+pub overflow_mul-n : goal.overflow_mul-n
 unfolding base_of
-overflow_mul-width c = search rules
+overflow_mul-n g c = search rules
 
-pub overflow_add-width : goal.overflow_add-width
+pub overflow_add-n : goal.overflow_add-n
 unfolding base_of
-overflow_add-width c = search rules
+overflow_add-n g c = search rules
 
 pub set_word-requires : goal.set_word-requires
 unfolding base_of There
-set_word-requires c =
+set_word-requires g c =
     record {
       directory = c.requires.valid.directory;
       there = c.requires.among;
@@ -33,7 +33,7 @@ set_word-requires c =
     }
 
 pub overflow_mul-to : goal.overflow_mul-to
-overflow_mul-to c =
+overflow_mul-to g c =
     omega (
       arith,
       last_end _ _ _ _ _ _ c.requires.valid c.requires.there _ c.requires.last,
@@ -42,7 +42,7 @@ overflow_mul-to c =
     )
 
 pub overflow_add-to : goal.overflow_add-to
-overflow_add-to c =
+overflow_add-to g c =
     omega (
       arith,
       last_end _ _ _ _ _ _ c.requires.valid c.requires.there _ c.requires.last,
@@ -51,16 +51,16 @@ overflow_add-to c =
     )
 
 pub overflow_mul-from : goal.overflow_mul-from
-overflow_mul-from c =
+overflow_mul-from g c =
     omega (arith, last_end _ _ _ _ _ _ c.requires.valid c.requires.there _ c.requires.last)
 
 pub overflow_add-from : goal.overflow_add-from
-overflow_add-from c =
+overflow_add-from g c =
     omega (arith, last_end _ _ _ _ _ _ c.requires.valid c.requires.there _ c.requires.last)
 
 pub copy_within-requires : goal.copy_within-requires
 unfolding base_of
-copy_within-requires c =
+copy_within-requires g c =
     let r = copy_requires _ _ _ _ _ _ c.requires.valid c.requires.there _ c.requires.last _ _ _ _ c.requires.among c.requires.owns c.requires.named c.requires.less
     c.cell_at-a.ensures.word _ _ [] [] c.set_word.ensures.left
     c.set_word.ensures.rest in
@@ -68,7 +68,7 @@ copy_within-requires c =
 
 pub drop_payload-requires : goal.drop_payload-requires
 unfolding base_of
-drop_payload-requires c =
+drop_payload-requires g c =
     record {
       inside = drop_requires _ _ _ _ _ _ c.requires.valid c.requires.there _ c.requires.last _ _ _ _ c.requires.among c.requires.owns c.requires.named c.requires.less
           c.cell_at-a.ensures.word _ _ _ []
@@ -78,17 +78,17 @@ drop_payload-requires c =
       some = omega (arith, c.requires.valid.wide);
     }
 
-pub overflow_mul-width-2 : goal.overflow_mul-width-2
+pub overflow_mul-n-2 : goal.overflow_mul-n-2
 unfolding base_of
-overflow_mul-width-2 c = search rules
+overflow_mul-n-2 g c = search rules
 
-pub overflow_add-width-2 : goal.overflow_add-width-2
+pub overflow_add-n-2 : goal.overflow_add-n-2
 unfolding base_of
-overflow_add-width-2 c = search rules
+overflow_add-n-2 g c = search rules
 
 pub take_cell-requires : goal.take_cell-requires
 unfolding base_of
-take_cell-requires c =
+take_cell-requires g c =
     let r = take_moved_requires _ _ _ _ _ _ c.requires.valid c.requires.there _ c.requires.last _ _ _ _ c.requires.among c.requires.owns c.requires.named c.requires.less
     c.cell_at-a.ensures.word _ _ _ _
     c.set_word.ensures.left
@@ -98,7 +98,7 @@ take_cell-requires c =
 
 pub returns : goal.returns
 unfolding base_of
-returns c =
+returns g c =
     record {
       left = take_moved _ _ _ _ _ _ c.requires.valid c.requires.there _ c.requires.last _ _ _ _ c.requires.among c.requires.owns c.requires.named c.requires.less
           c.cell_at-a.ensures.word

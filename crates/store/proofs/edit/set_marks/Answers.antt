@@ -7,22 +7,22 @@ use native.Mathlib.Omega.{arith}
 use borrow.Author.Rules.{rules}
 use Rattle.store.proofs.edit.set_marks.Goals as goal
 
-pub overflow_mul-width : goal.overflow_mul-width
+pub overflow_mul-n : goal.overflow_mul-n
 unfolding base_of
-overflow_mul-width c = search rules
+overflow_mul-n g c = search rules
 
-pub overflow_add-width : goal.overflow_add-width
+pub overflow_add-n : goal.overflow_add-n
 unfolding base_of
-overflow_add-width c = search rules
+overflow_add-n g c = search rules
 
 pub set_word-requires : goal.set_word-requires
 unfolding base_of There
-set_word-requires c =
+set_word-requires g c =
     record { directory = c.requires.valid.directory; there = c.requires.there; part = set_part _ _ _ _ _ _ _ c.requires.valid c.requires.there c.requires.part _ (omega arith) }
 
 pub returns : goal.returns
 unfolding base_of
-returns c =
+returns g c =
     let l = set_left _ _ _ _ _ _ _ c.requires.valid c.requires.there _ c.cell_at-a.ensures.word c.requires.small c.requires.part _
     c.set_word.ensures.left in
     record { left = l.0; contents = l.1; rest = c.set_word.ensures.rest }

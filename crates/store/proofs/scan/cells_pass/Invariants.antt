@@ -1,7 +1,9 @@
 -- `store::scan::cells_pass` meets its contract.
 -- Assumes nothing.
 use mathlib.Core.Path.{◌≡◌}
-use Prim.Native.Nat.{◌+◌, ◌-◌, ◌≤◌}
+use Prim.Native.Nat.{◌+◌, ◌≤◌}
+use Rattle.std.specs.Prelude.{ltb}
+use Rattle.std.specs.Option.{ForSome}
 use lib.ListN.{length, get_or}
 use Rattle.numbers.specs.Numbers.{scans}
 use Rattle.directory.specs.Cells.{page_at}
@@ -11,9 +13,6 @@ use Rattle.store.proofs.ScanTurns.{cells_left}
 use Rattle.store.proofs.scan.cells_pass.Given as goal
 
 abbrev pub invariant-loop-j : goal.invariant-loop-j
-invariant-loop-j l =
-    (l.j ≤ l.c) × (l.last + 3 ≤ length l.s)
-    × (cells_left (carried_at l.width l.parted l.s) (get_or l.s 0 0) l.s l.a l.c l.j l.last ≡ scans (carried_at l.width l.parted l.s) (get_or l.s 0 0) (limit_at l.s l.before (l.a + 1)) (page_at l.s l.a))
-
-abbrev pub decreases-loop-j : goal.decreases-loop-j
-decreases-loop-j l = l.c - l.j
+invariant-loop-j g l =
+    ForSome l.last (λ x. x + 3 ≤ length l.s)
+    × (cells_left (carried_at g.row.WIDTH (ltb 0 g.row.PARTS) l.s) (get_or l.s 0 0) l.s l.a l.c l.j l.last ≡ scans (carried_at g.row.WIDTH (ltb 0 g.row.PARTS) l.s) (get_or l.s 0 0) (limit_at l.s l.fn.before (l.a + 1)) (page_at l.s l.a))

@@ -4,31 +4,32 @@ use native.Mathlib.Omega.{arith}
 use Prim.Native.Nat.{◌+◌, ◌*◌, ◌%◌, ◌≤◌}
 use lib.ListN.{length}
 use Rattle.store.proofs.ScanCells.{named_over, named_other, named_part, payload_inside}
+use Rattle.store.proofs.scan.is_named.Given.{Over}
 use Rattle.store.proofs.scan.is_named.Goals.{Else-word-q}
 use Rattle.store.proofs.scan.is_named.Goals as goal
 
 -- the payload lies within the words
-there : (c : Else-word-q) →
-    6 + c.args.width * (c.word-w.result % 65536) + 3 ≤ length c.args.s.now
-there c =
+there : (g : Over) (c : Else-word-q g) →
+    6 + g.row.WIDTH * (c.word-w.result % 65536) + 3 ≤ length c.args.s.now
+there g c =
     payload_inside _ _ _ _ _ c.if-word-q.false c.word.ensures.same c.requires.wide c.requires.payloads
 
 pub returns-then-word-q : goal.returns-then-word-q
-returns-then-word-q c =
+returns-then-word-q g c =
     record { named = named_over _ _ _ _ _ _ c.word.ensures.same c.word-w.ensures.same (omega (arith, c.if-word-q.true)) }
 
 pub overflow_mul-p : goal.overflow_mul-p
-overflow_mul-p c = omega (arith, there c)
+overflow_mul-p g c = omega (arith, there g c)
 
 pub overflow_add-p : goal.overflow_add-p
-overflow_add-p c = omega (arith, there c)
+overflow_add-p g c = omega (arith, there g c)
 
 pub pair-requires : goal.pair-requires
-pair-requires c =
-    record { inside = omega (arith, there c) }
+pair-requires g c =
+    record { inside = omega (arith, there g c) }
 
 pub returns-then-pair : goal.returns-then-pair
-returns-then-pair c =
+returns-then-pair g c =
     record {
       named = named_other _ _ _ _ _ _ c.word.ensures.same c.word-w.ensures.same
           c.if-word-q.false (λ i. (c.type_inv.s i).fits) _ _
@@ -36,11 +37,11 @@ returns-then-pair c =
     }
 
 pub carried_part-requires : goal.carried_part-requires
-carried_part-requires c =
-    record { inside = omega (arith, there (goal.at.carried_part-requires c).Else-word-q) }
+carried_part-requires g c =
+    record { inside = omega (arith, there g (goal.at.carried_part-requires g c).Else-word-q) }
 
 pub returns : goal.returns
-returns c =
+returns g c =
     record {
       named = named_part _ _ _ _ _ _ c.word.ensures.same c.word-w.ensures.same
           c.if-word-q.false _ _ _ c.pair.ensures.spot c.pair-2.ensures.spot

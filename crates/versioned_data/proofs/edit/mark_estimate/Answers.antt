@@ -7,18 +7,20 @@ use Rattle.versioned_data.proofs.RowEdits.{row_valid, row_there, marks_part, mar
 use Rattle.versioned_data.proofs.EntryOperations.{pos_suc, small_of, found_row_lem, mark_refused, mark_done}
 use Rattle.versioned_data.proofs.edit.mark_estimate.Goals as goal
 
-pub returns-in-Absent : goal.returns-in-Absent
-returns-in-Absent c =
-    record { edited = mark_refused _ c.requires.valid _ _ _ (search rules) (small_of _ _ (shifted_word _ _ c.new.ensures.shifted) c.requires.served) (shifted_word _ _ c.new.ensures.shifted) _ c.find_entry-found.ensures.found (pos_suc _) _ _ c.in-Absent.is }
+pub returns-in-Err : goal.returns-in-Err
+returns-in-Err c =
+    record { edited = mark_refused _ c.requires.valid _ _ _ (search rules) (small_of _ _ (shifted_word _ _ c.new.ensures.shifted) c.requires.served) (shifted_word _ _ c.new.ensures.shifted) _ c.find_entry-found.ensures.found (pos_suc _) _ c.in-Err.is }
+
+pub invariant_of-rows : goal.invariant_of-rows
+invariant_of-rows c = record { valid = row_valid _ c.requires.valid _ c.units-n.ensures.units _ _ (found_row_lem _ _ _ _ c.find_entry-found.ensures.found _ c.in-Ok.is) }
 
 pub marks_at-m-requires : goal.marks_at-m-requires
-marks_at-m-requires c =
-    record { valid = row_valid _ c.requires.valid _ c.units-n.ensures.units _ _ (found_row_lem _ _ _ _ c.find_entry-found.ensures.found _ _ c.in-There.is); there = row_there _ c.requires.valid _ c.units-n.ensures.units _ _ (found_row_lem _ _ _ _ c.find_entry-found.ensures.found _ _ c.in-There.is) }
+marks_at-m-requires c = (omega arith, row_there _ c.requires.valid _ c.units-n.ensures.units _ _ (found_row_lem _ _ _ _ c.find_entry-found.ensures.found _ c.in-Ok.is))
 
 pub set_marks-requires : goal.set_marks-requires
 set_marks-requires c =
-    record { valid = row_valid _ c.requires.valid _ c.units-n.ensures.units _ _ (found_row_lem _ _ _ _ c.find_entry-found.ensures.found _ _ c.in-There.is); there = row_there _ c.requires.valid _ c.units-n.ensures.units _ _ (found_row_lem _ _ _ _ c.find_entry-found.ensures.found _ _ c.in-There.is); small = omega (arith, mark_few _ c.requires.valid _ c.units-n.ensures.units _ _ (found_row_lem _ _ _ _ c.find_entry-found.ensures.found _ _ c.in-There.is) _ c.marks_at-m.ensures.marks); part = marks_part _ c.requires.valid _ c.units-n.ensures.units _ _ (found_row_lem _ _ _ _ c.find_entry-found.ensures.found _ _ c.in-There.is) _ (mark_few _ c.requires.valid _ c.units-n.ensures.units _ _ (found_row_lem _ _ _ _ c.find_entry-found.ensures.found _ _ c.in-There.is) _ c.marks_at-m.ensures.marks) }
+    record { valid = row_valid _ c.requires.valid _ c.units-n.ensures.units _ _ (found_row_lem _ _ _ _ c.find_entry-found.ensures.found _ c.in-Ok.is); there = row_there _ c.requires.valid _ c.units-n.ensures.units _ _ (found_row_lem _ _ _ _ c.find_entry-found.ensures.found _ c.in-Ok.is); small = omega (arith, mark_few _ c.requires.valid _ c.units-n.ensures.units _ _ (found_row_lem _ _ _ _ c.find_entry-found.ensures.found _ c.in-Ok.is) _ c.marks_at-m.ensures.marks); part = marks_part _ c.requires.valid _ c.units-n.ensures.units _ _ (found_row_lem _ _ _ _ c.find_entry-found.ensures.found _ c.in-Ok.is) _ (mark_few _ c.requires.valid _ c.units-n.ensures.units _ _ (found_row_lem _ _ _ _ c.find_entry-found.ensures.found _ c.in-Ok.is) _ c.marks_at-m.ensures.marks) }
 
-pub returns-in-There : goal.returns-in-There
-returns-in-There c =
-    record { edited = mark_done _ c.requires.valid _ _ _ (search rules) (small_of _ _ (shifted_word _ _ c.new.ensures.shifted) c.requires.served) (shifted_word _ _ c.new.ensures.shifted) _ c.find_entry-found.ensures.found (pos_suc _) _ _ c.in-There.is _ c.units-n.ensures.units _ c.marks_at-m.ensures.marks _ c.set_marks.ensures.left }
+pub returns-in-Ok : goal.returns-in-Ok
+returns-in-Ok c =
+    record { edited = mark_done _ c.requires.valid _ _ _ (search rules) (small_of _ _ (shifted_word _ _ c.new.ensures.shifted) c.requires.served) (shifted_word _ _ c.new.ensures.shifted) _ c.find_entry-found.ensures.found (pos_suc _) _ c.in-Ok.is _ c.units-n.ensures.units _ c.marks_at-m.ensures.marks _ c.set_marks.ensures.left }

@@ -6,28 +6,29 @@ use Rattle.versioned_data.proofs.EntryWrites.{content_room, content_few}
 use Rattle.versioned_data.proofs.EntryOperations.{is_row, may_absent, may_delta, may_higher}
 use Rattle.versioned_data.proofs.edit.may_write.Goals as goal
 
-pub returns-in-Absent : goal.returns-in-Absent
-returns-in-Absent c =
-    record { may = may_absent _ _ _ _ _ c.in-Absent.is }
+pub returns-in-Err : goal.returns-in-Err
+returns-in-Err c =
+    record { may = may_absent _ _ _ _ c.in-Err.is }
+
+pub invariant_of-rows : goal.invariant_of-rows
+invariant_of-rows c = record { valid = row_valid _ c.requires.valid _ c.units-n.ensures.units _ _ (is_row _ _ c.requires.row _ c.in-Ok.is) }
 
 pub marks_at-m-requires : goal.marks_at-m-requires
-marks_at-m-requires c =
-    record { valid = row_valid _ c.requires.valid _ c.units-n.ensures.units _ _ (is_row _ _ c.requires.row _ _ c.in-There.is); there = row_there _ c.requires.valid _ c.units-n.ensures.units _ _ (is_row _ _ c.requires.row _ _ c.in-There.is) }
+marks_at-m-requires c = (omega arith, row_there _ c.requires.valid _ c.units-n.ensures.units _ _ (is_row _ _ c.requires.row _ c.in-Ok.is))
 
 pub returns-then-m-ne-WRITE : goal.returns-then-m-ne-WRITE
 returns-then-m-ne-WRITE c =
-    record { may = may_delta _ _ _ _ c.requires.valid _ c.units-n.ensures.units (is_row _ _ c.requires.row _ _ c.in-There.is) c.in-There.is _ c.marks_at-m.ensures.marks _ c.if-m-ne-WRITE.true }
+    record { may = may_delta _ _ _ c.requires.valid _ c.units-n.ensures.units (is_row _ _ c.requires.row _ c.in-Ok.is) c.in-Ok.is _ c.marks_at-m.ensures.marks _ c.if-m-ne-WRITE.true }
 
 pub content_at-b-requires : goal.content_at-b-requires
-content_at-b-requires c =
-    record { valid = row_valid _ c.requires.valid _ c.units-n.ensures.units _ _ (is_row _ _ c.requires.row _ _ c.in-There.is); there = row_there _ c.requires.valid _ c.units-n.ensures.units _ _ (is_row _ _ c.requires.row _ _ c.in-There.is) }
+content_at-b-requires c = (omega arith, row_there _ c.requires.valid _ c.units-n.ensures.units _ _ (is_row _ _ c.requires.row _ c.in-Ok.is))
 
 pub offset_bounds-s-b : goal.offset_bounds-s-b
-offset_bounds-s-b c = record { fits = omega (arith, content_few _ c.requires.valid _ c.units-n.ensures.units _ _ (is_row _ _ c.requires.row _ _ c.in-There.is) _ c.content_at-b.ensures.content) }
+offset_bounds-s-b c = record { fits = omega (arith, content_few _ c.requires.valid _ c.units-n.ensures.units _ _ (is_row _ _ c.requires.row _ c.in-Ok.is) _ c.content_at-b.ensures.content) }
 
 pub bounds-s-b : goal.bounds-s-b
-bounds-s-b c = omega (arith, content_room _ c.requires.valid _ c.units-n.ensures.units _ _ (is_row _ _ c.requires.row _ _ c.in-There.is) _ c.content_at-b.ensures.content)
+bounds-s-b c = omega (arith, content_room _ c.requires.valid _ c.units-n.ensures.units _ _ (is_row _ _ c.requires.row _ c.in-Ok.is) _ c.content_at-b.ensures.content)
 
-pub returns-in-There : goal.returns-in-There
-returns-in-There c =
-    record { may = may_higher _ _ _ _ c.requires.valid _ c.units-n.ensures.units (is_row _ _ c.requires.row _ _ c.in-There.is) c.in-There.is _ c.marks_at-m.ensures.marks _ c.if-m-ne-WRITE.false _ c.content_at-b.ensures.content }
+pub returns-else-m-ne-WRITE : goal.returns-else-m-ne-WRITE
+returns-else-m-ne-WRITE c =
+    record { may = may_higher _ _ _ c.requires.valid _ c.units-n.ensures.units (is_row _ _ c.requires.row _ c.in-Ok.is) c.in-Ok.is _ c.marks_at-m.ensures.marks _ c.if-m-ne-WRITE.false _ c.content_at-b.ensures.content }

@@ -6,17 +6,18 @@ use Rattle.versioned_data.proofs.EntryWrites.{content_room, content_few}
 use Rattle.versioned_data.proofs.ShortcutWords.{shortcut_none, shortcut_few, shortcut_rewritten, shortcut_put}
 use Rattle.versioned_data.proofs.materialize.record_delta_shortcut.Goals as goal
 
+pub invariant_of-rows : goal.invariant_of-rows
+invariant_of-rows c = record { valid = row_valid _ c.requires.valid _ c.units-n.ensures.units _ _ c.requires.row }
+
 pub marks_at-m-requires : goal.marks_at-m-requires
-marks_at-m-requires c =
-    record { valid = row_valid _ c.requires.valid _ c.units-n.ensures.units _ _ c.requires.row; there = row_there _ c.requires.valid _ c.units-n.ensures.units _ _ c.requires.row }
+marks_at-m-requires c = (omega arith, row_there _ c.requires.valid _ c.units-n.ensures.units _ _ c.requires.row)
 
 pub returns-then-m-eq-WRITE : goal.returns-then-m-eq-WRITE
 returns-then-m-eq-WRITE c =
     record { recorded = shortcut_none _ c.requires.valid _ c.units-n.ensures.units _ _ c.requires.row _ c.marks_at-m.ensures.marks _ c.if-m-eq-WRITE.true }
 
 pub content_at-b-requires : goal.content_at-b-requires
-content_at-b-requires c =
-    record { valid = row_valid _ c.requires.valid _ c.units-n.ensures.units _ _ c.requires.row; there = row_there _ c.requires.valid _ c.units-n.ensures.units _ _ c.requires.row }
+content_at-b-requires c = (omega arith, row_there _ c.requires.valid _ c.units-n.ensures.units _ _ c.requires.row)
 
 pub overflow_add-b : goal.overflow_add-b
 overflow_add-b c = record { fits = omega (arith, content_few _ c.requires.valid _ c.units-n.ensures.units _ _ c.requires.row _ c.content_at-b.ensures.content) }

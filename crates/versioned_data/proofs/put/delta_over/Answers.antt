@@ -5,9 +5,11 @@ use Rattle.versioned_data.proofs.RowEdits.{row_valid, row_there, then_valid, the
 use Rattle.versioned_data.proofs.EntryWrites.{content_room, content_few, delta_rewritten, delta_over_lem}
 use Rattle.versioned_data.proofs.put.delta_over.Goals as goal
 
+pub invariant_of-rows : goal.invariant_of-rows
+invariant_of-rows c = record { valid = row_valid _ c.requires.valid _ c.units-n.ensures.units _ _ c.requires.row }
+
 pub content_at-b-requires : goal.content_at-b-requires
-content_at-b-requires c =
-    record { valid = row_valid _ c.requires.valid _ c.units-n.ensures.units _ _ c.requires.row; there = row_there _ c.requires.valid _ c.units-n.ensures.units _ _ c.requires.row }
+content_at-b-requires c = (omega arith, row_there _ c.requires.valid _ c.units-n.ensures.units _ _ c.requires.row)
 
 pub put_words-requires : goal.put_words-requires
 put_words-requires c =

@@ -8,9 +8,8 @@ pub returns-then-n-eq0 : goal.returns-then-n-eq0
 returns-then-n-eq0 c =
     record { lack = more_none _ c.requires.valid _ c.requires.units c.if-n-eq0.true }
 
-pub units_held-requires : goal.units_held-requires
-units_held-requires c =
-    record { valid = more_valid _ c.requires.valid _ c.requires.units c.if-n-eq0.false }
+pub invariant_of-rows : goal.invariant_of-rows
+invariant_of-rows c = record { valid = more_valid _ c.requires.valid _ c.requires.units c.if-n-eq0.false }
 
 pub overflow_add-units_held : goal.overflow_add-units_held
 overflow_add-units_held c =

@@ -5,13 +5,14 @@ use Rattle.versioned_data.proofs.RowEdits.{row_valid, row_there, then_valid, the
 use Rattle.versioned_data.proofs.EntryWrites.{content_room, write_over_lem, write_rewritten, write_anew}
 use Rattle.versioned_data.proofs.put.write_over.Goals as goal
 
+pub invariant_of-rows : goal.invariant_of-rows
+invariant_of-rows c = record { valid = row_valid _ c.requires.valid _ c.units-n.ensures.units _ _ c.requires.row }
+
 pub marks_at-m-requires : goal.marks_at-m-requires
-marks_at-m-requires c =
-    record { valid = row_valid _ c.requires.valid _ c.units-n.ensures.units _ _ c.requires.row; there = row_there _ c.requires.valid _ c.units-n.ensures.units _ _ c.requires.row }
+marks_at-m-requires c = (omega arith, row_there _ c.requires.valid _ c.units-n.ensures.units _ _ c.requires.row)
 
 pub content_at-b-requires : goal.content_at-b-requires
-content_at-b-requires c =
-    record { valid = row_valid _ c.requires.valid _ c.units-n.ensures.units _ _ c.requires.row; there = row_there _ c.requires.valid _ c.units-n.ensures.units _ _ c.requires.row }
+content_at-b-requires c = (omega arith, row_there _ c.requires.valid _ c.units-n.ensures.units _ _ c.requires.row)
 
 pub put_value-requires : goal.put_value-requires
 put_value-requires c =

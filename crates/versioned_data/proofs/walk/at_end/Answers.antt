@@ -9,7 +9,7 @@ returns-in-Empty c =
 
 pub returns-in-Gathered : goal.returns-in-Gathered
 returns-in-Gathered c =
-    record { end = end_gathered _ _ c.requires.canonical c.in-Gathered.is }
+    record { end = end_gathered _ _ c.in-Gathered.is _ c.from.ensures }
 
 pub returns-in-Failed : goal.returns-in-Failed
 returns-in-Failed c =

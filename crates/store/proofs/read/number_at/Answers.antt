@@ -1,9 +1,0 @@
--- `store::read::number_at` meets its contract.
--- Assumes nothing.
-use Rattle.store.proofs.Reading.{read_number}
-use Rattle.store.proofs.read.number_at.Goals as goal
-
-pub returns : goal.returns
-returns c =
-    let r = read_number _ _ _ _ _ c.requires.there _ c.requires.valid _ c.cell_at-a.ensures.word in
-    record { content = r.0; word = r.1.0; used = r.1.1.0; inside = r.1.1.1 }
