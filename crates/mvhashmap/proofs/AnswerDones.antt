@@ -11,7 +11,7 @@ use lib.Dec.{eqb-suc-zero}
 use Rattle.number.proofs.Halves.{value_of_number_of}
 use Rattle.number.specs.Words.{digits}
 use Rattle.delta.specs.Delta.{Delta, delta_words}
-use Rattle.delta.proofs.DeltaOps.{exact_op_of}
+use Rattle.delta.proofs.RecordLaws.{exact_op_of}
 use Rattle.types.specs.Refusal.{incarnation_not_higher, base_differs, nothing_to_exchange}
 use Rattle.types.specs.Value.{is_exchanged, same_bytes}
 use Rattle.types.specs.Response.{response, resolved_kind, unresolved_kind}

@@ -9,21 +9,42 @@ use lib.ListN.{length, set}
 use lib.Seq.{sets, sets-eq}
 use borrow.Author.Tests.{eq-eqb, ne_eqb}
 use Rattle.types.specs.Value.{value_width}
-use Rattle.types.specs.Response.{head_of, response, done_kind, versioned_kind, versioned_at_base_kind, answer_width}
+use Rattle.types.specs.Response.{head_of, response, answer_number, done_kind, versioned_kind, versioned_at_base_kind, answer_width}
 use Rattle.types.specs.Index.{index_of}
 use Rattle.types.specs.ValueWithLayout.{words_of}
-use Rattle.types.specs.declared.index.IndexOrStorage.{IndexOrStorage}
-use Rattle.types.specs.declared.index.IndexOrStorage.TheVariants.{Index, StorageVersion}
+use Rattle.std.specs.Prelude.{Result, Ok, Err}
+use Rattle.types.specs.declared.response.AnswerKind.{AnswerKind}
+use Rattle.types.specs.declared.response.AnswerKind.TheVariants.{Done, Versioned, Resolved, Unresolved, Uninitialized, TagNotFound, Dependency, DeltaApplicationFailure, Size, Committed, WroteOutside, VersionedAtBase}
+use Rattle.types.specs.Refusal.{refusal_number}
+use Rattle.types.specs.declared.refusal.Refusal.{Refusal}
+use Rattle.types.specs.declared.output.MVDataOutput.{MVDataOutput}
+use Rattle.types.specs.declared.output.MVGroupOutput.{MVGroupOutput}
+use Rattle.types.specs.declared.index.StorageVersion.{StorageVersion}
 use Rattle.types.specs.declared.value.ValueWithLayout.{ValueWithLayout}
 use Rattle.types.proofs.AnswersTold.{index_told, storage_told}
 use Rattle.types.proofs.ValueLaws.{words_length}
 use Rattle.model.specs.Data.{Ruling, refuse, accept, done_answer, versioned_answer}
 use Rattle.versioned_group_data.specs.Ruled.{answer_in}
-use Rattle.mvhashmap.specs.Answer.{done_ruling, result_by, out_by, Put}
+use Rattle.mvhashmap.specs.Answer.{output_answer, output_ruling, group_output_answer, group_output_ruling, done_ruling, result_by, out_by, Put}
 
 pub sets_answer_in : (answer out : List ℕ) → length answer ≤ length out → sets out 0 answer ≡ answer_in answer out
 unfolding answer_in
 sets_answer_in answer out h = sets-eq answer out 0 (omega arith) ∙ simp zero-add refl
+
+-- Four bits hold a kind of answer.
+pub kind_small : (k : AnswerKind) → answer_number k ≤ 15
+kind_small Done = omega arith
+kind_small Versioned = omega arith
+kind_small Resolved = omega arith
+kind_small Unresolved = omega arith
+kind_small Uninitialized = omega arith
+kind_small TagNotFound = omega arith
+kind_small Dependency = omega arith
+kind_small DeltaApplicationFailure = omega arith
+kind_small Size = omega arith
+kind_small Committed = omega arith
+kind_small WroteOutside = omega arith
+kind_small VersionedAtBase = omega arith
 
 -- A head, and the words after it.
 pub put_response : (kind n : ℕ) (words out first after : List ℕ) → length words ≡ n → n < answer_width → answer_width ≤ length out →
@@ -59,16 +80,31 @@ module _ (r : ℕ) (out : List ℕ) where
   done_refused n = rw (ne_eqb r 0 n) (record { result = refl; words = refl })
 
 -- "1 Versioned (index, incarnation, value); 11 Versioned at the base (value)"
-module _ (at incarnation : ℕ) (v : ValueWithLayout) (out first after : List ℕ) (room : answer_width ≤ length out) (i : IndexOrStorage) (e : i ≡ index_of at) where
-  pub versioned_at_base : i ≡ StorageVersion → first ≡ set out 0 (head_of versioned_at_base_kind value_width) → after ≡ sets first 1 (words_of v) →
+module _ (at incarnation : ℕ) (v : ValueWithLayout) (out first after : List ℕ) (room : answer_width ≤ length out) (i : Result ℕ StorageVersion) (e : i ≡ index_of at) where
+  pub versioned_at_base : (base : StorageVersion) → i ≡ Err base → first ≡ set out 0 (head_of versioned_at_base_kind value_width) → after ≡ sets first 1 (words_of v) →
       after ≡ answer_in (versioned_answer at incarnation (words_of v)) out
   unfolding versioned_answer
-  versioned_at_base b h w =
-      rw (storage_told at (sym e ∙ b)) (put_response versioned_at_base_kind value_width (words_of v) out first after (words_length v) (omega arith) room h w)
+  versioned_at_base base b h w =
+      rw (storage_told at base (sym e ∙ b)) (put_response versioned_at_base_kind value_width (words_of v) out first after (words_length v) (omega arith) room h w)
 
-  pub versioned_at_index : (index : ℕ) → i ≡ Index index → first ≡ set out 0 (head_of versioned_kind (2 + value_width)) →
+  pub versioned_at_index : (index : ℕ) → i ≡ Ok index → first ≡ set out 0 (head_of versioned_kind (2 + value_width)) →
       after ≡ sets (set (set first 1 index) 2 incarnation) 3 (words_of v) → after ≡ answer_in (versioned_answer at incarnation (words_of v)) out
   unfolding versioned_answer
   versioned_at_index index b h w =
       rw (index_told at index (sym e ∙ b))
       (put_response versioned_kind (2 + value_width) (index ∷ incarnation ∷ words_of v) out first after (omega (arith, words_length v)) (omega arith) room h w)
+
+-- What a read of a group finds is answered, whatever it is.
+pub group_put : (o : MVGroupOutput) (out after : List ℕ) → after ≡ answer_in (group_output_answer o) out → Put (group_output_ruling o) out 0 after
+unfolding group_output_ruling result_by out_by
+group_put o out after w = record { result = refl; words = w }
+
+-- And of a value.
+module _ (x : Result MVDataOutput Refusal) (out : List ℕ) where
+  pub data_put : (o : MVDataOutput) → x ≡ Ok o → (after : List ℕ) → after ≡ answer_in (output_answer o) out → Put (output_ruling x) out 0 after
+  unfolding output_ruling
+  data_put o e after w = put_accepted output_ruling x (Ok o) e out (output_answer o) after refl w
+
+  pub data_refused : (refusal : Refusal) → x ≡ Err refusal → (n : ℕ) → n ≡ refusal_number refusal → Put (output_ruling x) out n out
+  unfolding output_ruling
+  data_refused refusal e n k = put_refused output_ruling x (Err refusal) e out n (ap refuse (sym k))

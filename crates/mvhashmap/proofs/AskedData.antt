@@ -12,7 +12,8 @@ use Rattle.lists.proofs.Bools.{and_left, and_right}
 use Rattle.delta.specs.Delta.{delta_width, delta_at, delta_ok}
 use Rattle.types.specs.Index.{index_bound, materialize_bound}
 use Rattle.types.specs.Value.{value_at, value_width, value_ok, is_exchanged}
-use Rattle.request.specs.Table.{row, table, row_of, key_place, index_place, incarnation_place}
+use Rattle.request.specs.Table.{number_of, row, table, row_of, key_place, index_place, incarnation_place}
+use Rattle.request.specs.declared.kind.Kind.TheVariants.{LastCommitted, GroupBase, Exchange, GroupWrite, GroupEstimate, GroupRemove, GroupFetch, GroupSize, Finalize}
 use Rattle.request.specs.Set.{tags_of}
 use Rattle.request.specs.Request.{request_of}
 use Rattle.request.specs.declared.asked.Fields.{Fields}
@@ -130,52 +131,52 @@ module _ (t : List ℕ) (f : Fields) (o : List ℕ) (a : Asked t f o) where
 
   -- ---- the words of each kind
 
-  pub group_base_inside : f.kind ≡ 8 → f.value + value_width * length (tags_of f.set.low f.set.high) ≤ length t
+  pub group_base_inside : f.kind ≡ GroupBase → f.value + value_width * length (tags_of f.set.low f.set.high) ≤ length t
   unfolding row_of table row
-  group_base_inside k = passed_values t f passed 8 k refl refl
+  group_base_inside k = passed_values t f passed 8 (ap number_of k) refl refl
 
-  pub exchange_inside : f.kind ≡ 9 → f.value + value_width ≤ length t
+  pub exchange_inside : f.kind ≡ Exchange → f.value + value_width ≤ length t
   unfolding row_of table row
-  exchange_inside k = passed_room t f passed 9 k value_width (omega arith)
+  exchange_inside k = passed_room t f passed 9 (ap number_of k) value_width (omega arith)
 
-  pub group_write_inside : f.kind ≡ 10 → f.value + value_width * length (tags_of f.set.low f.set.high) ≤ length t
+  pub group_write_inside : f.kind ≡ GroupWrite → f.value + value_width * length (tags_of f.set.low f.set.high) ≤ length t
   unfolding row_of table row
-  group_write_inside k = passed_values t f passed 10 k refl refl
+  group_write_inside k = passed_values t f passed 10 (ap number_of k) refl refl
 
   -- ---- the work of each kind
 
-  pub asks_last_committed : f.kind ≡ 0 → Asks t (commit_group f.key 0 (Groups.get_last_committed_group f.key))
+  pub asks_last_committed : f.kind ≡ LastCommitted → Asks t (commit_group f.key 0 (Groups.get_last_committed_group f.key))
   unfolding work_of
-  asks_last_committed k = asks _ (ap work_of (Requests.asks_last_committed t f passed.fields k))
+  asks_last_committed k = asks _ (ap work_of (Requests.asks_last_committed t passed.shape f passed.fields (ap number_of k)))
 
-  pub asks_group_base : f.kind ≡ 8 → Asks t (commit_group f.key 0 (Groups.set_raw_base_values f.key (members_at f.set f.value t)))
+  pub asks_group_base : f.kind ≡ GroupBase → Asks t (commit_group f.key 0 (Groups.set_raw_base_values f.key (members_at f.set f.value t)))
   unfolding work_of members_at
-  asks_group_base k = asks _ (ap work_of (Requests.asks_group_base t f passed.fields k))
+  asks_group_base k = asks _ (ap work_of (Requests.asks_group_base t passed.shape f passed.fields (ap number_of k)))
 
-  pub asks_exchange : f.kind ≡ 9 → Asks t (commit_group f.key 0 (Groups.update_tagged_base_value f.key f.tag (value_at f.value t)))
+  pub asks_exchange : f.kind ≡ Exchange → Asks t (commit_group f.key 0 (Groups.update_tagged_base_value f.key f.tag (value_at f.value t)))
   unfolding work_of
-  asks_exchange k = asks _ (ap work_of (Requests.asks_exchange t f passed.fields k))
+  asks_exchange k = asks _ (ap work_of (Requests.asks_exchange t passed.shape f passed.fields (ap number_of k)))
 
-  pub asks_group_write : f.kind ≡ 10 → Asks t (edit_group f.key (suc f.index) (Groups.write_group f.incarnation (members_at f.set f.value t)))
+  pub asks_group_write : f.kind ≡ GroupWrite → Asks t (edit_group f.key (suc f.index) (Groups.write_group f.incarnation (members_at f.set f.value t)))
   unfolding work_of members_at
-  asks_group_write k = asks _ (ap work_of (Requests.asks_group_write t f passed.fields k))
+  asks_group_write k = asks _ (ap work_of (Requests.asks_group_write t passed.shape f passed.fields (ap number_of k)))
 
-  pub asks_group_estimate : f.kind ≡ 11 → Asks t (edit_group f.key (suc f.index) Groups.mark_group)
+  pub asks_group_estimate : f.kind ≡ GroupEstimate → Asks t (edit_group f.key (suc f.index) Groups.mark_group)
   unfolding work_of
-  asks_group_estimate k = asks _ (ap work_of (Requests.asks_group_estimate t f passed.fields k))
+  asks_group_estimate k = asks _ (ap work_of (Requests.asks_group_estimate t passed.shape f passed.fields (ap number_of k)))
 
-  pub asks_group_remove : f.kind ≡ 12 → Asks t (edit_group f.key (suc f.index) Groups.remove_group)
+  pub asks_group_remove : f.kind ≡ GroupRemove → Asks t (edit_group f.key (suc f.index) Groups.remove_group)
   unfolding work_of
-  asks_group_remove k = asks _ (ap work_of (Requests.asks_group_remove t f passed.fields k))
+  asks_group_remove k = asks _ (ap work_of (Requests.asks_group_remove t passed.shape f passed.fields (ap number_of k)))
 
-  pub asks_group_fetch : f.kind ≡ 13 → Asks t (read_group f.key f.index (Groups.fetch_tagged_data f.tag))
+  pub asks_group_fetch : f.kind ≡ GroupFetch → Asks t (read_group f.key f.index (Groups.fetch_tagged_data f.tag))
   unfolding work_of
-  asks_group_fetch k = asks _ (ap work_of (Requests.asks_group_fetch t f passed.fields k))
+  asks_group_fetch k = asks _ (ap work_of (Requests.asks_group_fetch t passed.shape f passed.fields (ap number_of k)))
 
-  pub asks_group_size : f.kind ≡ 14 → Asks t (read_group f.key f.index Groups.get_group_size)
+  pub asks_group_size : f.kind ≡ GroupSize → Asks t (read_group f.key f.index Groups.get_group_size)
   unfolding work_of
-  asks_group_size k = asks _ (ap work_of (Requests.asks_group_size t f passed.fields k))
+  asks_group_size k = asks _ (ap work_of (Requests.asks_group_size t passed.shape f passed.fields (ap number_of k)))
 
-  pub asks_finalize : f.kind ≡ 15 → Asks t (commit_group f.key (suc f.index) (Groups.finalize_group f.key))
+  pub asks_finalize : f.kind ≡ Finalize → Asks t (commit_group f.key (suc f.index) (Groups.finalize_group f.key))
   unfolding work_of
-  asks_finalize k = asks _ (ap work_of (Requests.asks_finalize t f passed.fields k))
+  asks_finalize k = asks _ (ap work_of (Requests.asks_finalize t passed.shape f passed.fields (ap number_of k)))

@@ -1,25 +1,32 @@
 -- The whole call, from a store's part of it and from each refusal before that.
 -- Assumes nothing.
 use mathlib.Core.Path.{◌≡◌, refl, sym, ap, ◌∙◌}
-use mathlib.Core.Bool.{Bool, true, false, not, cond}
+use mathlib.Core.Bool.{Bool, true, false, not}
 use mathlib.Core.List.{List, [], ◌++◌, append-nil}
-use Prim.Native.Nat.{ℕ, zero, suc, ◌-◌, ◌≤◌, ◌<◌}
+use Prim.Native.Nat.{ℕ, zero, suc, ◌-◌, ◌^◌, ◌≤◌, ◌<◌}
 use native.Mathlib.Omega.{arith}
-use lib.Dec.{eqb, leb, eqb-suc-zero}
-use lib.ListN.{length, take, drop, drop_of_length-le}
+use lib.Dec.{leb}
+use lib.ListN.{length, get_or, take, drop, drop_of_length-le}
 use lib.Seq.{take_all}
-use borrow.Author.Tests.{not-true, not-false, leb-true, leb-false, le-leb, lt-leb}
+use borrow.Author.Tests.{not-true, not-false, leb-true}
 use Rattle.lists.proofs.Bools.{and_left, and_right}
 use Rattle.number.specs.Words.{AreWords}
-use Rattle.types.specs.Refusal.{answer_too_short, wrong_count, damaged_store}
-use Rattle.types.specs.Response.{answer_width}
+use Rattle.types.specs.Refusal.{answer_too_short, wrong_count, damaged_store, refusal_number, result_number}
+use Rattle.types.specs.Response.{answer_width, kind_in}
 use Rattle.request.specs.Request.{refusal_of}
-use Rattle.request.specs.Fields.{kind_at, fields_at}
+use Rattle.request.specs.Fields.{kind_at}
 use Rattle.request.specs.Checked.{check_of}
 use Rattle.request.specs.declared.asked.Fields.{Fields}
-use Rattle.request.specs.declared.Checked.{Checked}
-use Rattle.request.specs.declared.Checked.TheVariants.{Refused, Accepted}
-use Rattle.request.proofs.CheckAnswers.{check_empty, accepted_passed}
+use Rattle.std.specs.Prelude.{Result, Ok, Err}
+use Rattle.types.specs.declared.refusal.Refusal.{Refusal}
+use Rattle.types.specs.declared.refusal.Refusal.TheVariants.{AnswerTooShort, WrongCount, BadField, IndexTooHigh, DamagedStore, NothingThere, IncarnationNotHigher, BaseDiffers, LayoutUnderDelta, NoNumberUnderDelta, CommitRule, NothingToExchange, NotMaterializable, UnitsExhausted}
+use Rattle.request.specs.declared.kind.Kind.{Kind}
+use Rattle.request.specs.declared.kind.Kind.TheVariants.{LastCommitted, Base, Write, AddDelta, Estimate, Remove, Fetch, Materialize, GroupBase, Exchange, GroupWrite, GroupEstimate, GroupRemove, GroupFetch, GroupSize, Finalize}
+use mathlib.Core.Logic.{◌⊎◌, inl, inr}
+use Rattle.request.specs.Table.{number_of, kind_of}
+use Rattle.request.proofs.KindNumbers.{number_back}
+use Rattle.request.proofs.Shapes.{shape_empty}
+use Rattle.request.proofs.CheckAnswers.{accepted_passed, refused_told}
 use Rattle.request.proofs.CheckPasses.{kind_is}
 use Rattle.model.specs.Model.{unless_refused, ruling, step}
 use Rattle.model.proofs.FineParts.{words_every}
@@ -31,16 +38,33 @@ use Rattle.mvhashmap.proofs.CallOrder.{refused_by_slice, refused_by_request, ref
 use Rattle.mvhashmap.proofs.StoresSound.{data_valid_lem, group_valid_lem, sound_both, call_of_long}
 use Rattle.mvhashmap.proofs.ServedWorks.{like_same}
 
-pub asked_accepted : (t o : List ℕ) → AreWords t → answer_width ≤ length o → (x : Checked) → x ≡ check_of t → (f : Fields) → x ≡ Accepted f → Asked t f o
+pub asked_accepted : (t o : List ℕ) → AreWords t → answer_width ≤ length o → (x : Result Fields Refusal) → x ≡ check_of t → (f : Fields) → x ≡ Ok f → Asked t f o
 asked_accepted t o w room x e f h = record { words = words_every t w; checked = sym e ∙ h; room = room }
 
 -- What the check of a data request that did not refuse has told.
-pub asked_data : (t o : List ℕ) → AreWords t → answer_width ≤ length o → (k : ℕ) → k ≡ kind_at t → (n : ℕ) → n ≡ refusal_of t → n ≡ 0 → DataAsked t k o
-asked_data t o w room k e n p z = record { words = words_every t w; passed = sym p ∙ z; kind = sym e; room = room }
+pub asked_data : (t o : List ℕ) → AreWords t → answer_width ≤ length o → (k : ℕ) → k ≡ kind_at t → {A : Type 0} (x : Result A Refusal) → result_number x ≡ refusal_of t → (a : A) → x ≡ Ok a → DataAsked t k o
+asked_data t o w room k e x p a z =
+    record { words = words_every t w; passed = sym p ∙ ap result_number z; kind = sym e; room = room }
 
 -- What the whole check that did not refuse has told.
-pub passed_told : (t : List ℕ) (x : Checked) → x ≡ check_of t → (f : Fields) → x ≡ Accepted f → refusal_of t ≡ 0
+pub passed_told : (t : List ℕ) (x : Result Fields Refusal) → x ≡ check_of t → (f : Fields) → x ≡ Ok f → refusal_of t ≡ 0
 passed_told t x e f h = (accepted_passed t f (sym e ∙ h)).refusal
+
+pub number_nonzero : (r : Refusal) → refusal_number r ≡ 0 → ⊥
+number_nonzero AnswerTooShort e = omega (arith, e)
+number_nonzero WrongCount e = omega (arith, e)
+number_nonzero BadField e = omega (arith, e)
+number_nonzero IndexTooHigh e = omega (arith, e)
+number_nonzero DamagedStore e = omega (arith, e)
+number_nonzero NothingThere e = omega (arith, e)
+number_nonzero IncarnationNotHigher e = omega (arith, e)
+number_nonzero BaseDiffers e = omega (arith, e)
+number_nonzero LayoutUnderDelta e = omega (arith, e)
+number_nonzero NoNumberUnderDelta e = omega (arith, e)
+number_nonzero CommitRule e = omega (arith, e)
+number_nonzero NothingToExchange e = omega (arith, e)
+number_nonzero NotMaterializable e = omega (arith, e)
+number_nonzero UnitsExhausted e = omega (arith, e)
 
 -- What a scan that did not refuse has told.
 pub valid_told : (b v : Bool) → b ≡ v → not b ≡ false → v ≡ true
@@ -48,27 +72,53 @@ valid_told b v e n = sym e ∙ not-false b n
 
 -- ---- the kinds of either store
 
-pub data_no : (k : ℕ) → k < 1 → false ≡ is_data k
+pub data_not : (k : Kind) → (k ≡ Base → ⊥) → (k ≡ Write → ⊥) → (k ≡ AddDelta → ⊥) → (k ≡ Estimate → ⊥) → (k ≡ Remove → ⊥) → (k ≡ Fetch → ⊥) → (k ≡ Materialize → ⊥) → false ≡ is_data (number_of k)
 unfolding is_data
-data_no k h = rw (lt-leb 1 k h) refl
+data_not LastCommitted a b c d e f g = refl
+data_not Base a b c d e f g = absurd (a refl)
+data_not Write a b c d e f g = absurd (b refl)
+data_not AddDelta a b c d e f g = absurd (c refl)
+data_not Estimate a b c d e f g = absurd (d refl)
+data_not Remove a b c d e f g = absurd (e refl)
+data_not Fetch a b c d e f g = absurd (f refl)
+data_not Materialize a b c d e f g = absurd (g refl)
+data_not GroupBase a b c d e f g = refl
+data_not Exchange a b c d e f g = refl
+data_not GroupWrite a b c d e f g = refl
+data_not GroupEstimate a b c d e f g = refl
+data_not GroupRemove a b c d e f g = refl
+data_not GroupFetch a b c d e f g = refl
+data_not GroupSize a b c d e f g = refl
+data_not Finalize a b c d e f g = refl
 
-pub data_by : (k : ℕ) → 1 ≤ k → leb k 7 ≡ is_data k
-unfolding is_data
-data_by k h = rw (le-leb 1 k h) refl
+module _ (k : Kind) where
+  data_is : (x : Kind) → is_data (number_of x) ≡ true → k ≡ x → true ≡ is_data (number_of k)
+  data_is x d e = sym (ap (λ (y : Kind). is_data (number_of y)) e ∙ d)
+
+  pub data_one : (k ≡ Base) ⊎ ((k ≡ Write) ⊎ ((k ≡ AddDelta) ⊎ ((k ≡ Estimate) ⊎ ((k ≡ Remove) ⊎ ((k ≡ Fetch) ⊎ (k ≡ Materialize)))))) → true ≡ is_data (number_of k)
+  unfolding is_data
+  data_one (inl e) = data_is Base refl e
+  data_one (inr (inl e)) = data_is Write refl e
+  data_one (inr (inr (inl e))) = data_is AddDelta refl e
+  data_one (inr (inr (inr (inl e)))) = data_is Estimate refl e
+  data_one (inr (inr (inr (inr (inl e))))) = data_is Remove refl e
+  data_one (inr (inr (inr (inr (inr (inl e)))))) = data_is Fetch refl e
+  data_one (inr (inr (inr (inr (inr (inr e)))))) = data_is Materialize refl e
 
 -- What the test of a kind has told.
-pub data_kind : (b : Bool) (k : ℕ) → b ≡ is_data k → not b ≡ false → (1 ≤ k) × (k ≤ 7)
+pub data_kind : (b : Bool) (k : ℕ) → b ≡ is_data k → b ≡ true → (1 ≤ k) × (k ≤ 7)
 unfolding is_data
 data_kind b k e n =
-    let d = sym e ∙ not-false b n in
+    let d = sym e ∙ n in
     (leb-true 1 k (and_left (leb 1 k) (leb k 7) d), leb-true k 7 (and_right (leb 1 k) (leb k 7) d))
 
-pub group_number : (k : ℕ) → is_data k ≡ false → k ≤ 7 → k ≡ 0
-group_number zero n h = refl
-group_number (suc k) n h = absurd (omega (arith, leb-false (suc k) 7 (data_by (suc k) (omega arith) ∙ n)))
+pub group_kind : (t : List ℕ) (x : Result Fields Refusal) → x ≡ check_of t → (f : Fields) → x ≡ Ok f → is_data (kind_at t) ≡ false → is_data (number_of f.kind) ≡ false
+group_kind t x e f h n = ap is_data (kind_is t f (accepted_passed t f (sym e ∙ h))) ∙ n
 
-pub group_kind : (t : List ℕ) (x : Checked) → x ≡ check_of t → (f : Fields) → x ≡ Accepted f → is_data (kind_at t) ≡ false → f.kind ≤ 7 → f.kind ≡ 0
-group_kind t x e f h n = group_number f.kind (ap is_data (kind_is t f (accepted_passed t f (sym e ∙ h))) ∙ n)
+-- Four bits hold the kind of a request.
+pub kind_told : (t : List ℕ) → get_or t 0 0 < 2 ^ 32 → (n : ℕ) → n ≡ kind_in (get_or t 0 0) → (k : Kind) → k ≡ kind_of n → number_of k ≡ kind_at t
+unfolding kind_at
+kind_told t w n e k f = let few : n < 16 = omega (arith, w, e) in ap number_of f ∙ number_back n few ∙ e
 
 module _ (t : List ℕ) (l : Lent) where
   calls_number : (n : ℕ) → call_of t (view_of l) ≡ refused_by n (view_of l) → Calls t l n l
@@ -84,24 +134,16 @@ module _ (t : List ℕ) (l : Lent) where
     calls_refusal zero e h = absurd (h refl)
     calls_refusal (suc n) e h = calls_number (suc n) (refused_by_request t (view_of l) room n (sym e))
 
-    -- and by the whole check
-    refused : (n : ℕ) → check_of t ≡ Refused n → Calls t l n l
-    unfolding check_of
-    refused n h = go (refusal_of t) refl h
-      where
-        go : (m : ℕ) → refusal_of t ≡ m → cond (eqb m 0) (Accepted (fields_at t)) (Refused m) ≡ Refused n → Calls t l n l
-        go zero e k = absurd (let z : ◌≡◌ {A = ℕ} 0 1 = cc in omega arith)
-        go (suc m) e k =
-            let same : Refused (suc m) ≡ Refused n = rw (eqb-suc-zero m) at k in
-            let number : suc m ≡ n = cc in
-            rw (sym number) (calls_number (suc m) (refused_by_request t (view_of l) room m e))
-
     pub calls_empty : length t ≡ 0 → Calls t l wrong_count l
-    calls_empty h = refused wrong_count (sym (check_empty t (omega arith)))
+    unfolding refusal_of
+    calls_empty h = calls_refusal wrong_count (rw (sym (shape_empty t (omega arith))) refl) (λ e. omega arith)
 
-    module _ (x : Checked) (checked : x ≡ check_of t) where
-      pub calls_refused : (n : ℕ) → x ≡ Refused n → Calls t l n l
-      calls_refused n e = refused n (sym checked ∙ e)
+    -- and by the whole check
+    module _ (x : Result Fields Refusal) (checked : x ≡ check_of t) where
+      pub calls_refused : (refusal : Refusal) → x ≡ Err refusal → (n : ℕ) → n ≡ refusal_number refusal → Calls t l n l
+      calls_refused refusal e n k =
+          let number : n ≡ refusal_of t = k ∙ refused_told t refusal (sym checked ∙ e) in
+          calls_refusal n number (λ z. number_nonzero refusal (sym k ∙ z))
 
     module _ (z : refusal_of t ≡ 0) where
       -- "5: range, pair or partner rule broken"
@@ -134,8 +176,8 @@ module _ (t d g o : List ℕ) (k : ℕ) (a : DataAsked t k o) (v : sound (stores
   calls_data s = calls_served t (lent d g o) a.room a.passed v r (lent after g o-after) (s.served g (group_valid_lem (stores d g) v))
 
 module _ (t g o : List ℕ) (v : group_valid g ≡ true) where
-  pub group_refused : answer_width ≤ length o → (x : Checked) → x ≡ check_of t → (n : ℕ) → x ≡ Refused n → CallsGroup t g o n g o
-  group_refused room x e n h = record { called = λ d u. calls_refused t (lent d g o) room x e n h }
+  pub group_refused : answer_width ≤ length o → (x : Result Fields Refusal) → x ≡ check_of t → (refusal : Refusal) → x ≡ Err refusal → (n : ℕ) → n ≡ refusal_number refusal → CallsGroup t g o n g o
+  group_refused room x e refusal h n k = record { called = λ d u. calls_refused t (lent d g o) room x e refusal h n k }
 
   pub group_served : (f : Fields) → Asked t f o → (r : ℕ) (after o-after : List ℕ) → ServesGroup t g o r after o-after → CallsGroup t g o r after o-after
   group_served f a r after o-after s =
@@ -153,10 +195,10 @@ whole_after s u = let e : drop (length s - 0) s ≡ [] = drop_of_length-le s {i 
 
 -- The group store's part.
 module _ (t d g o : List ℕ) (room : answer_width ≤ length o) (v : sound (stores d g) ≡ true) where
-  pub group_ready : (k : ℕ) → k ≡ kind_at t → (b : Bool) → b ≡ is_data k → not b ≡ true →
+  pub group_ready : (k : ℕ) → k ≡ kind_at t → (b : Bool) → b ≡ is_data k → b ≡ false →
       (group_valid (take (length g - 0) g) ≡ true) × ((answer_width ≤ length (take (length o - 0) o)) × (is_data (kind_at (take (length t - 0) t)) ≡ false))
   group_ready k e b h n =
-      rw (whole g, whole o, whole t) (group_valid_lem (stores d g) v, (room, ap is_data (sym e) ∙ sym h ∙ not-true b n))
+      rw (whole g, whole o, whole t) (group_valid_lem (stores d g) v, (room, ap is_data (sym e) ∙ sym h ∙ n))
 
   pub group_done : (r : ℕ) (after o-after : List ℕ) → CallsGroup (take (length t - 0) t) (take (length g - 0) g) (take (length o - 0) o) r after o-after →
       Calls t (lent d g o) r (lent d (after ++ drop (length g - 0) g) (o-after ++ drop (length o - 0) o))

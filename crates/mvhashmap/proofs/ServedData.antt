@@ -11,6 +11,8 @@ use Rattle.types.specs.Index.{shifted_of, word_of}
 use Rattle.types.specs.Value.{value_at}
 use Rattle.types.specs.ValueWithLayout.{words_of, value_from}
 use Rattle.types.specs.declared.output.MVDataOutput.TheVariants.{Versioned}
+use Rattle.std.specs.Prelude.{Result, Ok}
+use Rattle.types.specs.declared.refusal.Refusal.{Refusal}
 use Rattle.types.specs.declared.index.ShiftedTxnIndex.{ShiftedTxnIndex}
 use Rattle.types.specs.declared.value.ValueWithLayout.{ValueWithLayout}
 use Rattle.versioned_data.specs.First.{Wrote}
@@ -28,7 +30,7 @@ use Rattle.versioned_data.specs.Edited.{Edited}
 use Rattle.versioned_data.specs.Materialize.{Materializes}
 use Rattle.versioned_data.specs.declared.materialize.Materialized.{Materialized}
 use Rattle.versioned_data.proofs.EntriesHeld as Entries
-use Rattle.mvhashmap.specs.Answer.{done_ruling, output_ruling, materialized_ruling, result_by, out_by, Put}
+use Rattle.mvhashmap.specs.Answer.{done_ruling, output_answer, output_ruling, materialized_ruling, result_by, out_by, Put}
 use Rattle.mvhashmap.specs.Served.{ServesData, FetchedIf, DataAsked}
 use Rattle.mvhashmap.proofs.AnswerOutputs.{output_kept}
 use Rattle.mvhashmap.proofs.AskedData.{Asks}
@@ -45,7 +47,7 @@ module _ (t d o : List ℕ) (r : ℕ) (out : List ℕ) (v : data_valid d ≡ tru
       p.left
 
   module _ (key index : ℕ) where
-    pub serves_fetch : Asks t (read_data key index fetch_data) → (x : MVDataOutput) → x ≡ output_of (read_of (down_from key index (entries_in d))) →
+    pub serves_fetch : Asks t (read_data key index fetch_data) → (x : Result MVDataOutput Refusal) → x ≡ output_of (read_of (down_from key index (entries_in d))) →
         Put (output_ruling x) o r out → ServesData t d o r d out
     unfolding fetch_data
     serves_fetch a x h q = reads_data t o r out d v key index fetch_data a (rw (ap output_ruling h ∙ kept) at q)
@@ -56,9 +58,9 @@ module _ (t d o : List ℕ) (r : ℕ) (out : List ℕ) (v : data_valid d ≡ tru
     -- a fetch that ends at a write, answered from the store's words
     serves_write : Asks t (read_data key index fetch_data) → r ≡ 0 → (content place : ℕ) → Wrote d key index content place →
         out ≡ answer_in (versioned_answer place (get_or d content 0) (words_of (value_from (value_at (content + 1) d)))) o → ServesData t d o r d out
-    unfolding output_ruling result_by out_by
+    unfolding output_ruling output_answer result_by out_by
     serves_write a z content place h g =
-        serves_fetch a (Versioned (shifted_of place) (get_or d content 0) (value_from (value_at (content + 1) d)))
+        serves_fetch a (Ok (Versioned (shifted_of place) (get_or d content 0) (value_from (value_at (content + 1) d))))
         (versioned_is (shifted_of place) (get_or d content 0) (value_from (value_at (content + 1) d)) (value_at (content + 1) d) refl ∙ ap output_of (sym h.read))
         (record { result = z; words = g })
 

@@ -1,12 +1,11 @@
 -- What the part of a call that does the work promises: the whole of `Calls` for a request that 1 to 4 do not refuse, over sound stores.
-use Rattle.std.specs.Prelude.{◌≡◌, Bool, true, false, ◌&&◌, List, ℕ, ◌≤◌, leb, length}
+use Rattle.std.specs.Prelude.{◌≡◌, Bool, true, false, ◌&&◌, List, ℕ, ◌≤◌, leb, length, Ok}
 use Rattle.lists.specs.Lists.{every}
 use Rattle.types.specs.Response.{answer_width}
 use Rattle.request.specs.Request.{refusal_of, request_of}
 use Rattle.request.specs.Fields.{kind_at}
 use Rattle.request.specs.Checked.{check_of}
 use Rattle.request.specs.declared.asked.Fields.{Fields}
-use Rattle.request.specs.declared.Checked.TheVariants.{Accepted}
 use Rattle.model.specs.Model.{work_of, perform, unless_full}
 use Rattle.model.specs.Fine.{is_word}
 use Rattle.versioned_data.specs.Layout.{data_valid}
@@ -26,7 +25,7 @@ pub record DataAsked (t : List ℕ) (number : ℕ) (out : List ℕ) : Type 0 whe
 
 pub record Asked (t : List ℕ) (f : Fields) (out : List ℕ) : Type 0 where
   pub words : every is_word t ≡ true
-  pub checked : check_of t ≡ Accepted f
+  pub checked : check_of t ≡ Ok f
   pub room : answer_width ≤ length out
 
 -- What it comes to over sound stores: refusals 6 to 14, or the answer and what the stores hold after.

@@ -1,6 +1,7 @@
 // The call: the refusals 1 to 5, lowest first, and the store that does the work.
 ghost use Rattle.std.specs.Prelude.{◌≡◌, true, false, ◌≤◌, ◌<◌, length};
 ghost use Rattle.types.specs.Response.{answer_width};
+ghost use Rattle.request.specs.Table.{number_of};
 ghost use Rattle.request.specs.Fields.{kind_at};
 ghost use Rattle.group_slots.specs.Layout.{group_valid};
 ghost use Rattle.mvhashmap.specs.Call.{stores, lent, sound, Calls};
@@ -9,26 +10,32 @@ ghost use Rattle.mvhashmap.specs.Served.{is_data, CallsGroup};
 use crate::data::data_call;
 use crate::group::group_call;
 use group_slots::scan as group_scan;
-use request::Checked;
 use request::data::data_refusal;
+use request::kind::Kind;
 use types::refusal;
 use types::response::{ANSWER_WIDTH, kind_in};
 use versioned_data::scan as data_scan;
 
-fn kind_of(t: &[u32]) -> usize
+fn kind_of(t: &[u32]) -> Kind
     requires some { 0 < length t.now }
-    ensures kind { result ≡ kind_at t.now }
+    ensures kind { number_of result ≡ kind_at t.now }
 {
-    kind_in(t[0])
+    Kind::of(kind_in(t[0]))
 }
 
-fn is_data(kind: usize) -> bool
-    ensures data { result ≡ is_data kind }
+fn is_data(kind: Kind) -> bool
+    ensures data { result ≡ is_data (number_of kind) }
 {
-    if kind < 1 {
-        return false;
+    match kind {
+        Kind::Base
+        | Kind::Write
+        | Kind::AddDelta
+        | Kind::Estimate
+        | Kind::Remove
+        | Kind::Fetch
+        | Kind::Materialize => true,
+        _ => false,
     }
-    kind <= 7
 }
 
 // A request for the group store.
@@ -39,12 +46,8 @@ fn group_request(t: &[u32], group: &mut [u32], out: &mut [u32]) -> u32
     ensures called { CallsGroup t.now group.old out.old result group.new out.new }
 {
     match request::check(t) {
-        Checked::Refused(n) => {
-            return n;
-        }
-        Checked::Accepted(f) => {
-            return group_call(f, t, group, out);
-        }
+        Err(refusal) => refusal.number(),
+        Ok(f) => group_call(f, t, group, out),
     }
 }
 
@@ -56,18 +59,17 @@ pub fn inner_call(t: &[u32], data: &mut [u32], group: &mut [u32], out: &mut [u32
     if out.len() < ANSWER_WIDTH {
         return refusal::ANSWER_TOO_SHORT;
     }
-    if t.len() == 0 {
+    if t.is_empty() {
         return refusal::WRONG_COUNT;
     }
     let kind = kind_of(t);
     if !is_data(kind) {
         return group_request(&t[0..], &mut group[0..], &mut out[0..]);
     }
-    let refused = data_refusal(t, kind);
-    if refused != 0 {
-        return refused;
+    match data_refusal(t, kind) {
+        Err(refusal) => refusal.number(),
+        Ok(()) => data_call(kind, t, data, out),
     }
-    data_call(kind, t, data, out)
 }
 
 // A call over any words.
@@ -78,10 +80,8 @@ pub fn call(t: &[u32], data: &mut [u32], group: &mut [u32], out: &mut [u32]) -> 
         return refusal::ANSWER_TOO_SHORT;
     }
     match request::check(t) {
-        Checked::Refused(n) => {
-            return n;
-        }
-        Checked::Accepted(_) => {
+        Err(refusal) => refusal.number(),
+        Ok(_) => {
             if !data_scan::is_valid(data) {
                 return refusal::DAMAGED_STORE;
             }
@@ -89,7 +89,7 @@ pub fn call(t: &[u32], data: &mut [u32], group: &mut [u32], out: &mut [u32]) -> 
                 return refusal::DAMAGED_STORE;
             }
             // The request is checked again: the scans take a hundred times as long.
-            return inner_call(t, data, group, out);
+            inner_call(t, data, group, out)
         }
     }
 }

@@ -1,9 +1,11 @@
 // The kinds that go to the data store, 1 to 7. The fields are read where they stand in the request: a struct of them goes through memory.
 ghost use Rattle.std.specs.Prelude.{◌≡◌, true, ◌≤◌};
+ghost use Rattle.request.specs.Table.{number_of};
 ghost use Rattle.versioned_data.specs.Layout.{data_valid};
 ghost use Rattle.mvhashmap.specs.Served.{DataAsked, ServesData, FetchedIf};
 
 use crate::answer::{done, put_data_output, put_materialized, put_write};
+use request::kind::Kind;
 use versioned_data::{edit, fetch, materialize};
 
 // The places of the fields: single words, the values of a base and of a write, and a delta.
@@ -70,14 +72,13 @@ fn fetch_write(t: &[u32], s: &[u32], out: &mut [u32]) -> bool
     requires asked { DataAsked t.now 6 out.old }
     ensures fetched { FetchedIf result t.now s.now out.old out.new }
 {
-    let w = fetch::first_write(s, t[KEY], t[INDEX]);
-    let b = w.content;
-    let place = w.place;
-    if b == 0 {
-        return false;
+    match fetch::first_write(s, t[KEY], t[INDEX]) {
+        Some(w) => {
+            put_write(s, w.content, w.place, out);
+            true
+        }
+        None => false,
     }
-    put_write(s, b, place, out);
-    true
 }
 
 fn fetch_other(t: &[u32], s: &mut [u32], out: &mut [u32]) -> u32
@@ -85,8 +86,13 @@ fn fetch_other(t: &[u32], s: &mut [u32], out: &mut [u32]) -> u32
     requires asked { DataAsked t.now 6 out.old }
     ensures served { ServesData t.now s.old out.old result s.new out.new }
 {
-    let o = fetch::fetch_data(s, t[KEY], t[INDEX]);
-    put_data_output(out, o)
+    match fetch::fetch_data(s, t[KEY], t[INDEX]) {
+        Ok(o) => {
+            put_data_output(out, o);
+            0
+        }
+        Err(refusal) => refusal.number(),
+    }
 }
 
 // Parts of the slices are handed on, so that the slices themselves stay out of memory.
@@ -111,44 +117,36 @@ fn materialize_delta(t: &[u32], s: &mut [u32], out: &mut [u32]) -> u32
 }
 
 // The kinds that are seldom asked for.
-fn rare_call(kind: usize, t: &[u32], s: &mut [u32], out: &mut [u32]) -> u32
+fn rare_call(kind: Kind, t: &[u32], s: &mut [u32], out: &mut [u32]) -> u32
     requires valid { data_valid s.old ≡ true }
-    requires asked { DataAsked t.now kind out.old }
-    requires some { 1 ≤ kind }
-    requires data { kind ≤ 7 }
-    requires no_fetch { kind ≡ 6 → ⊥ }
-    requires no_write { kind ≡ 2 → ⊥ }
-    requires no_removal { kind ≡ 5 → ⊥ }
+    requires asked { DataAsked t.now (number_of kind) out.old }
+    requires some { 1 ≤ number_of kind }
+    requires data { number_of kind ≤ 7 }
+    requires no_fetch { kind ≡ Kind.Fetch → ⊥ }
+    requires no_write { kind ≡ Kind.Write → ⊥ }
+    requires no_removal { kind ≡ Kind.Remove → ⊥ }
     ensures served { ServesData t.now s.old out.old result s.new out.new }
 {
-    if kind == 1 {
-        return set_base_value(t, s, out);
+    match kind {
+        Kind::Base => set_base_value(t, s, out),
+        Kind::AddDelta => add_delta(t, s, out),
+        Kind::Estimate => mark_estimate(t, s, out),
+        _ => materialize_delta(t, s, out),
     }
-    if kind == 3 {
-        return add_delta(t, s, out);
-    }
-    if kind == 4 {
-        return mark_estimate(t, s, out);
-    }
-    materialize_delta(t, s, out)
 }
 
 // Fetches, writes and removals first. The others are handed parts of the slices, so that the slices themselves stay out of memory.
-pub fn data_call(kind: usize, t: &[u32], s: &mut [u32], out: &mut [u32]) -> u32
+pub fn data_call(kind: Kind, t: &[u32], s: &mut [u32], out: &mut [u32]) -> u32
     requires valid { data_valid s.old ≡ true }
-    requires asked { DataAsked t.now kind out.old }
-    requires some { 1 ≤ kind }
-    requires data { kind ≤ 7 }
+    requires asked { DataAsked t.now (number_of kind) out.old }
+    requires some { 1 ≤ number_of kind }
+    requires data { number_of kind ≤ 7 }
     ensures served { ServesData t.now s.old out.old result s.new out.new }
 {
-    if kind == 6 {
-        return fetch_data(t, s, out);
+    match kind {
+        Kind::Fetch => fetch_data(t, s, out),
+        Kind::Write => write(t, s, out),
+        Kind::Remove => remove(t, s, out),
+        _ => rare_call(kind, &t[0..], &mut s[0..], &mut out[0..]),
     }
-    if kind == 2 {
-        return write(t, s, out);
-    }
-    if kind == 5 {
-        return remove(t, s, out);
-    }
-    rare_call(kind, &t[0..], &mut s[0..], &mut out[0..])
 }

@@ -9,18 +9,18 @@ use Rattle.mvhashmap.proofs.answer.put_versioned.Goals as goal
 pub bounds-out-2 : goal.bounds-out-2
 bounds-out-2 c = simp length-set (omega arith)
 
-pub write-requires-in-Index : goal.write-requires-in-Index
-write-requires-in-Index c =
+pub write-requires : goal.write-requires
+write-requires c =
     record { inside = simp length-set (omega arith) }
 
-pub returns-in-StorageVersion : goal.returns-in-StorageVersion
-returns-in-StorageVersion c =
-    record { put = versioned_at_base _ _ _ _ _ _ c.requires.room _ c.idx.ensures.unshifted c.in-StorageVersion.is c.put_head.ensures.put c.write.ensures.written }
+pub returns-in-Err : goal.returns-in-Err
+returns-in-Err c =
+    record { put = versioned_at_base _ _ _ _ _ _ c.requires.room _ c.idx.ensures.unshifted _ c.in-Err.is c.put_head-in-Err.ensures.put c.write-in-Err.ensures.written }
 
-pub shape_of-out-in-Index : goal.shape_of-out-in-Index
-shape_of-out-in-Index c =
-    c.write-in-Index.auto.s ∙ simp length-set c.put_head-in-Index.auto.out
+pub shape_of-out-in-Ok : goal.shape_of-out-in-Ok
+shape_of-out-in-Ok c =
+    c.write.auto.s ∙ simp length-set c.put_head.auto.out
 
-pub returns-in-Index : goal.returns-in-Index
-returns-in-Index c =
-    record { put = versioned_at_index _ _ _ _ _ _ c.requires.room _ c.idx.ensures.unshifted _ c.in-Index.is c.put_head-in-Index.ensures.put c.write-in-Index.ensures.written }
+pub returns-in-Ok : goal.returns-in-Ok
+returns-in-Ok c =
+    record { put = versioned_at_index _ _ _ _ _ _ c.requires.room _ c.idx.ensures.unshifted _ c.in-Ok.is c.put_head.ensures.put c.write.ensures.written }

@@ -8,23 +8,23 @@ pub returns-then-out-lt-ANSWER_WIDTH : goal.returns-then-out-lt-ANSWER_WIDTH
 returns-then-out-lt-ANSWER_WIDTH c =
     record { called = calls_short _ _ c.if-out-lt-ANSWER_WIDTH.true }
 
-pub returns-in-Refused : goal.returns-in-Refused
-returns-in-Refused c =
-    record { called = calls_refused _ _ c.if-out-lt-ANSWER_WIDTH.false _ c.check.ensures.checked _ c.in-Refused.is }
+pub returns-in-Err : goal.returns-in-Err
+returns-in-Err c =
+    record { called = calls_refused _ _ c.if-out-lt-ANSWER_WIDTH.false _ c.check.ensures.checked _ c.in-Err.is _ c.number.ensures.number }
 
 pub returns-then-not-is_valid : goal.returns-then-not-is_valid
 returns-then-not-is_valid c =
     record {
       called = calls_data_invalid _ _ c.if-out-lt-ANSWER_WIDTH.false
-          (passed_told _ _ c.check.ensures.checked _ c.in-Accepted.is) _
+          (passed_told _ _ c.check.ensures.checked _ c.in-Ok.is) _
           c.is_valid.ensures.valid c.if-not-is_valid.true-raw;
     }
 
 pub returns-then-not-is_valid-2 : goal.returns-then-not-is_valid-2
 returns-then-not-is_valid-2 c =
     record {
-      called = calls_group_invalid _ _ c.if-out-lt-ANSWER_WIDTH.false (passed_told _ _ c.check.ensures.checked _ c.in-Accepted.is)
-          (valid_told _ _ c.is_valid.ensures.valid c.if-not-is_valid.false-raw) _ c.is_valid-in-Accepted.ensures.valid
+      called = calls_group_invalid _ _ c.if-out-lt-ANSWER_WIDTH.false (passed_told _ _ c.check.ensures.checked _ c.in-Ok.is)
+          (valid_told _ _ c.is_valid.ensures.valid c.if-not-is_valid.false-raw) _ c.is_valid-in-Ok.ensures.valid
           c.if-not-is_valid-2.true-raw;
     }
 
@@ -32,5 +32,5 @@ pub inner_call-requires : goal.inner_call-requires
 inner_call-requires c =
     record {
       sound = sound_both _ _ (valid_told _ _ c.is_valid.ensures.valid c.if-not-is_valid.false-raw)
-          (valid_told _ _ c.is_valid-in-Accepted.ensures.valid c.if-not-is_valid-2.false-raw);
+          (valid_told _ _ c.is_valid-in-Ok.ensures.valid c.if-not-is_valid-2.false-raw);
     }

@@ -1,6 +1,7 @@
 -- `mvhashmap::data::fetch_other` meets its contract.
 -- Assumes nothing.
 use native.Mathlib.Omega.{arith}
+use Rattle.mvhashmap.proofs.AnswerPuts.{data_put, data_refused}
 use Rattle.mvhashmap.proofs.ServedData.{serves_fetch}
 use Rattle.mvhashmap.proofs.AskedData.{plain_inside, data_served, asks_fetch}
 use Rattle.mvhashmap.proofs.data.fetch_other.Goals as goal
@@ -12,17 +13,24 @@ pub bounds-t-2 : goal.bounds-t-2
 bounds-t-2 c =
     omega (arith, plain_inside _ _ 6 c.requires.asked (omega arith) (omega arith))
 
-pub fetch_data-o-requires : goal.fetch_data-o-requires
-fetch_data-o-requires c =
+pub fetch_data-requires : goal.fetch_data-requires
+fetch_data-requires c =
     record { store = c.requires.valid; served = data_served _ _ 6 c.requires.asked (omega arith) (omega arith) }
 
 pub put_data_output-requires : goal.put_data_output-requires
 put_data_output-requires c =
     record { room = c.requires.asked.room }
 
-pub returns : goal.returns
-returns c =
+pub returns-in-Ok : goal.returns-in-Ok
+returns-in-Ok c =
     record {
-      served = serves_fetch _ _ _ _ _ c.requires.valid _ _ (asks_fetch _ _ c.requires.asked) _ c.fetch_data-o.ensures.read
-          c.put_data_output.ensures.put;
+      served = serves_fetch _ _ _ _ _ c.requires.valid _ _ (asks_fetch _ _ c.requires.asked) _ c.fetch_data.ensures.read
+          (data_put _ _ _ c.in-Ok.is _ c.put_data_output.ensures.put);
+    }
+
+pub returns-in-Err : goal.returns-in-Err
+returns-in-Err c =
+    record {
+      served = serves_fetch _ _ _ _ _ c.requires.valid _ _ (asks_fetch _ _ c.requires.asked) _ c.fetch_data.ensures.read
+          (data_refused _ _ _ c.in-Err.is _ c.number.ensures.number);
     }

@@ -1,5 +1,6 @@
 -- `mvhashmap::group::fetch_tagged_data` meets its contract.
 -- Assumes nothing.
+use Rattle.mvhashmap.proofs.AnswerPuts.{group_put}
 use Rattle.mvhashmap.proofs.ServedGroup.{serves_group_fetch}
 use Rattle.mvhashmap.proofs.AskedData.{index_served, tag_served, asks_group_fetch}
 use Rattle.mvhashmap.proofs.group.fetch_tagged_data.Goals as goal
@@ -10,4 +11,4 @@ fetch_tagged_data-o-requires c =
 
 pub returns : goal.returns
 returns c =
-    record { served = serves_group_fetch _ _ _ _ _ c.requires.valid _ _ _ (asks_group_fetch _ _ _ c.requires.asked c.requires.kind) _ c.fetch_tagged_data-o.ensures.read c.put_group_output.ensures.put }
+    record { served = serves_group_fetch _ _ _ _ _ c.requires.valid _ _ _ (asks_group_fetch _ _ _ c.requires.asked c.requires.kind) _ c.fetch_tagged_data-o.ensures.read (group_put _ _ _ c.put_group_output.ensures.put) }
