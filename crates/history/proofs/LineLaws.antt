@@ -114,22 +114,6 @@ answer_line o p q r (w ∷ ws) some x y z =
 
 -- ---- the line of a refusal
 
-pub decimal_one : (o : List ℕ) (at n d : ℕ) → n < 10 → d ≡ digit_of n → set o at d ≡ sets o at (decimal n)
-unfolding decimal
-decimal_one o at n d h e = rw (lt-ltb n 10 h, e) refl
-
-pub decimal_two : (o : List ℕ) (at n d u : ℕ) → 10 ≤ n → d ≡ digit_of (n / 10) → u ≡ digit_of (n % 10) → set (set o at d) (at + 1) u ≡ sets o at (decimal n)
-unfolding decimal
-decimal_two o at n d u h e f = rw (le-ltb n 10 h, e, f, add-one at) refl
-
-pub length_one : (n : ℕ) → n < 10 → length (decimal n) ≡ 1
-unfolding decimal
-length_one n h = rw (lt-ltb n 10 h) refl
-
-pub length_two : (n : ℕ) → 10 ≤ n → length (decimal n) ≡ 2
-unfolding decimal
-length_two n h = rw (le-ltb n 10 h) refl
-
 pub length_decimal : (n : ℕ) → length (decimal n) ≤ 2
 unfolding decimal
 length_decimal n = go (ltb n 10)

@@ -1,14 +1,13 @@
 -- Laws of a whole run: its turns, from the start on, give what it promises.
-use Rattle.std.proofs.Common.{◌≡◌, ℕ, ◌+◌, ◌%◌, ◌^◌, ◌≤◌, Bool, true, false, List, [], ◌++◌, length, take, sym, refl, ap, ◌∙◌, subst, append-nil, arith, lit≤}
+use Rattle.std.proofs.Common.{◌≡◌, ℕ, ◌+◌, ◌%◌, ◌^◌, true, false, List, [], ◌++◌, length, sym, refl, ap, ◌∙◌, append-nil, arith, lit≤}
 use Rattle.std.specs.declared.option.Option.{Option}
 use Rattle.lists.proofs.Bools.{true_not_false}
 use Rattle.mvhashmap.specs.Call.{View}
 use Rattle.history.specs.Whole.{requests_in, lines_of, view_after}
-use Rattle.history.specs.State.{State, unread, emptied, start}
+use Rattle.history.specs.State.{State, unread, start}
 use Rattle.history.specs.Turn.{lines_ahead, view_ahead, Turned}
 use Rattle.history.specs.Ran.{Ran}
-use Rattle.history.specs.Moved.{Handed, TurnedBy, RanBy}
-use Rattle.history.proofs.MovedLaws.{by_then, by_written}
+use Rattle.history.specs.Moved.{TurnedBy, RanBy}
 
 -- At the start nothing waits and nothing is unread.
 start_lines : (b : List ℕ) (l : View) (o rest : List ℕ) → lines_ahead start b l o rest ≡ lines_of (requests_in rest) l
@@ -66,25 +65,7 @@ module _ (a d u w : Option (List ℕ)) (b : List ℕ) (l : View) (o : List ℕ) 
       → RanBy a d u w l r m
   ran_failed s first r c m p x e = ran_by r c m p (rw first at x) (λ f. true_not_false r.failed e f)
 
--- It stopped, and what waits then is written.
-module _ (a d u v w : Option (List ℕ)) (b : List ℕ) (l : View) (o : List ℕ) (s : State) (c : List ℕ) (m : View) (p : List ℕ) where
-  end_stop : (failed : Bool) → (emptied s failed).stop ≡ s.stop
-  unfolding emptied
-  end_stop failed = refl
-
-  end_put : (failed : Bool) → (emptied s failed).put ≡ 0
-  unfolding emptied
-  end_put failed = refl
-
-  pub ran_stopped : (t : State) → t ≡ start → TurnedBy a d u v t b l o s c m p → (r : State) → s.put ≤ length p → s.stop ≡ true → s.failed ≡ false → r ≡ emptied s r.failed → Handed v w (take s.put p) r.failed
+  -- It stopped, and nothing waits.
+  pub ran_stopped : (s : State) → s ≡ start → (r : State) (c : List ℕ) (m : View) (p : List ℕ) → TurnedBy a d u w s b l o r c m p → r.stop ≡ true → r.put ≡ 0
       → RanBy a d u w l r m
-  ran_stopped t first y r h e goes f k = subst (λ (t : State). RanBy a d u w l t m) (sym f) (done r.failed k)
-    where
-      x : TurnedBy a d u v start b l o s c m p
-      x = rw first at y
-
-      done : (failed : Bool) → Handed v w (take s.put p) failed → RanBy a d u w l (emptied s failed) m
-      done failed k =
-          ran_by a d u w b l o (emptied s failed) c m p
-          (by_then a d d u v w start b l o s c m p (emptied s failed) c m p x goes (by_written d v w s c m p failed h k))
-          (λ f. (end_stop failed ∙ e, end_put failed))
+  ran_stopped s first r c m p x e f = ran_by r c m p (rw first at x) (λ _. (e, f))

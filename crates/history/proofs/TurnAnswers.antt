@@ -1,5 +1,5 @@
 -- Laws of a turn that answers: the next request is that of all the input to come, and its line follows those that wait.
-use Rattle.std.proofs.Common.{None, ◌≡◌, ℕ, ◌+◌, ◌-◌, ◌*◌, ◌^◌, ◌<◌, ◌≤◌, Bool, true, false, cond, ◌||◌, eqb, List, [], ◌++◌, length, take, drop, sym, refl, ap, ◌∙◌, append_assoc, append-nil, arith, length-append, length-drop, length-take-le, drop-drop, take-add, drop_at, eq-eqb, ne_eqb, eqb-true}
+use Rattle.std.proofs.Common.{◌≡◌, ℕ, ◌+◌, ◌-◌, ◌*◌, ◌^◌, ◌<◌, ◌≤◌, Bool, true, false, cond, ◌||◌, eqb, List, [], ◌++◌, length, take, drop, sym, refl, ap, ◌∙◌, append_assoc, append-nil, arith, length-append, length-drop, length-take-le, drop-drop, take-add, drop_at, eq-eqb, ne_eqb, eqb-true}
 use Rattle.std.specs.declared.option.Option.{Option}
 use lib.Seq.{sets, sets-eq, length-sets, drop-append-le, take-append-add}
 use borrow.Author.Tests.{eqb-false}
@@ -189,6 +189,3 @@ module _ (s : State) (b : List ℕ) (l : View) (o : List ℕ) (within : Within (
       fits =
           omega
           (arith, h, put_after, ap (λ (k : State). k.put) x.state, ap (λ (k : List ℕ). length k) x.line, length-sets o s.put (line_for u l))
-
-  pub turned_answered : (r : State) (l' : View) (p : List ℕ) → r.put ≤ length p → Answered s u l o r l' p → Turned s b l o r b l' p
-  turned_answered r l' p h x = (by_answered None None r l' p h x).turned

@@ -26,7 +26,7 @@ pub struct Session<const BLOCK: usize, const WORDS: usize, const STORE: usize> {
 }
 
 impl<const BLOCK: usize, const WORDS: usize, const STORE: usize> Session<BLOCK, WORDS, STORE> {
-    ghost use Rattle.std.specs.Prelude.{◌≡◌, ◌+◌, ◌-◌, ◌^◌, ◌<◌, false, length, drop, is_err};
+    ghost use Rattle.std.specs.Prelude.{◌≡◌, ◌+◌, ◌-◌, ◌^◌, ◌<◌, true, false, length, drop, is_err};
     ghost use Rattle.std.specs.Io.KnownBytes.{Consumes};
     ghost use Rattle.history.specs.State.{longest_request, longest_line, unread, ReadOn, budget, start};
     ghost use Rattle.history.specs.Turn.{Answered, Turned};
@@ -85,12 +85,12 @@ impl<const BLOCK: usize, const WORDS: usize, const STORE: usize> Session<BLOCK, 
 
     // A line is written before the program waits for more input.
     fn turn<R: Read, W: Write>(&mut self, reader: &mut R, writer: &mut W) -> io::Result<()>
-        requires goes_on { self.old.stopped ≡ false }
+        requires goes_on { self.old.stopped ≡ true → 0 < self.old.output.put }
         ensures less { budget (state_of self.new (is_err result)) < budget (state_of self.old false) }
         ensures turned { Turned (state_of self.old false) self.old.input.bytes (view_in self.old) self.old.output.bytes (state_of self.new (is_err result)) self.new.input.bytes (view_in self.new) self.new.output.bytes }
         ensures moved { TurnedBy (R.remaining reader.old) (R.remaining reader.new) (W.contents writer.old) (W.contents writer.new) (state_of self.old false) self.old.input.bytes (view_in self.old) self.old.output.bytes (state_of self.new (is_err result)) self.new.input.bytes (view_in self.new) self.new.output.bytes }
     {
-        if self.output.room() < LINE {
+        if self.stopped || self.output.room() < LINE {
             return self.output.write_waiting(writer);
         }
         if !self.input.wants_more() {
@@ -107,14 +107,14 @@ impl<const BLOCK: usize, const WORDS: usize, const STORE: usize> Session<BLOCK, 
         Ok(())
     }
 
-    // Makes turns until there is no more to answer or a write fails, and then writes what waits.
+    // Makes turns until there is no more to answer and nothing waits, or a write fails.
     pub fn run<R: Read, W: Write>(&mut self, reader: &mut R, writer: &mut W) -> io::Result<()>
         ensures ran { state_of self.old false ≡ start → Ran (view_in self.old) (state_of self.new (is_err result)) (view_in self.new) }
         ensures moved { state_of self.old false ≡ start → RanBy (R.remaining reader.old) (R.remaining reader.new) (W.contents writer.old) (W.contents writer.new) (view_in self.old) (state_of self.new (is_err result)) (view_in self.new) }
     {
-        while !self.stopped {
+        while !self.stopped || self.output.waiting() > 0 {
             self.turn(reader, writer)?;
         }
-        self.output.write_waiting(writer)
+        Ok(())
     }
 }

@@ -1,9 +1,8 @@
-use Rattle.std.proofs.Common.{◌≡◌, true, false, sym, refl, subst}
+use Rattle.std.proofs.Common.{arith, ◌≡◌, true, false, sym, refl, subst}
 use Rattle.history.specs.State.{start}
 use Rattle.history.specs.Moved.{RanBy}
 use Rattle.history.specs.Session.{state_of, view_in}
 use Rattle.history.proofs.MovedLaws.{by_none, by_then}
-use Rattle.history.proofs.SessionLaws.{emptied_in}
 use Rattle.history.proofs.RanLaws.{ran_failed, ran_stopped}
 use Rattle.history.proofs.session.Session.run.Goals as goal
 
@@ -44,10 +43,8 @@ pub returns : goal.returns
 returns g c =
     let x = c.args.self.now in
     let y = c.loop-self.self in
-    let o = c.write_waiting.new.self in
     let all = λ (first : state_of x false ≡ start).
-    ran_stopped _ _ _ _ _ x.input.bytes (view_in x) x.output.bytes (state_of y false) y.input.bytes (view_in y) y.output.bytes (state_of x false) first
-    c.loop-self.invariant _ y.output.within c.loop-self-test.false refl
-    (emptied_in y.input y.output y.stopped _ o c.write_waiting.ensures.written) c.write_waiting.ensures.handed
+    ran_stopped _ _ _ _ x.input.bytes (view_in x) x.output.bytes (state_of x false) first (state_of y false) y.input.bytes (view_in y) y.output.bytes
+    c.loop-self.invariant c.if-not-self.false (omega (arith, c.waiting.ensures.waiting, c.if-waiting-gt0.false))
     in
     record { ran = λ first. (all first).ran; moved = all }

@@ -1,19 +1,25 @@
-use Rattle.std.proofs.Common.{false, length, sym, refl, ◌∙◌, arith, rules}
+use Rattle.std.proofs.Common.{◌<◌, false, length, sym, refl, ◌∙◌, arith, rules}
 use Rattle.history.specs.State.{Within, gave_up}
 use Rattle.history.specs.Session.{state_of, view_in}
 use Rattle.history.proofs.StateLaws.{room_to_read}
 use Rattle.history.proofs.SessionLaws.{wants_in, emptied_in}
 use Rattle.history.proofs.TurnPromises.{goes_written, goes_gave_up, goes_read, goes_answered}
 use Rattle.history.proofs.session.Session.turn.Goals as goal
+use Rattle.history.proofs.session.Session.turn.Goals.{then-self-via-then-self, then-self-via-else-self+then-room-lt-LINE}
 
-pub returns-then-room-lt-LINE : goal.returns-then-room-lt-LINE
-returns-then-room-lt-LINE g c =
+pub returns-then-self : goal.returns-then-self
+returns-then-self g c =
     let x = c.args.self.now in
     let o = c.write_waiting.new.self in
+    let some : 0 < x.output.put =
+    elim c.then-self.branch [
+      | then-self-via-then-self w ↦ c.requires.goes_on w.if-self.true
+      | then-self-via-else-self+then-room-lt-LINE w ↦ omega (arith, x.output.room, w.room.ensures.room, w.if-room-lt-LINE.true)
+    ]
+    in
     let goes =
-    goes_written (state_of x false) x.input.bytes (view_in x) x.output.bytes x.output.within refl (g.R.Read.remaining c.args.reader.now) _ _
-    (omega (arith, x.output.room, c.room.ensures.room, c.if-room-lt-LINE.true)) _ o.bytes (emptied_in x.input x.output x.stopped _ o c.write_waiting.ensures.written)
-    c.write_waiting.ensures.kept c.write_waiting.ensures.handed in
+    goes_written (state_of x false) x.input.bytes (view_in x) x.output.bytes x.output.within refl (g.R.Read.remaining c.args.reader.now) _ _ some _ o.bytes
+    (emptied_in x.input x.output x.stopped _ o c.write_waiting.ensures.written) c.write_waiting.ensures.kept c.write_waiting.ensures.handed in
     record { less = goes.0; turned = goes.1.turned; moved = goes.1 }
 
 pub returns-then-not-wants_more : goal.returns-then-not-wants_more
@@ -23,7 +29,7 @@ returns-then-not-wants_more g c =
     let settles = sym (wants_in x.input x.output x.stopped false x.input.bytes) ∙ sym c.wants_more.ensures.wants ∙ c.if-not-wants_more.true in
     let within : Within (length x.input.bytes) (state_of x false) = record { from = x.input.from; to = x.input.to } in
     let goes =
-    goes_answered (state_of x false) x.input.bytes (view_in x) x.output.bytes within (omega (arith, x.answer_fits)) settles c.requires.goes_on
+    goes_answered (state_of x false) x.input.bytes (view_in x) x.output.bytes within (omega (arith, x.answer_fits)) settles c.if-self.false
     (state_of y false) (view_in y) y.output.bytes y.output.within c.answer_next.ensures.answered
     (g.R.Read.remaining c.args.reader.now) (g.W.Write.contents c.args.writer.now) y.input.bytes c.answer_next.ensures.bytes in
     record { less = goes.0; turned = goes.1.turned; moved = goes.1 }
