@@ -3,7 +3,6 @@
 use native.Mathlib.Omega.{arith}
 use mathlib.Core.Path.{refl, ap}
 use lib.ListN.{length}
-use Rattle.request.specs.Set.{tags_of}
 use Rattle.versioned_group_data.specs.Members.{members_at}
 use Rattle.versioned_group_data.proofs.BaseAgreeing.{agree_end, agree_stop, agree_again}
 use Rattle.versioned_group_data.proofs.base.all_agree.Goals as goal

@@ -4,7 +4,6 @@ use borrow.Author.Rules.{rules}
 use native.Mathlib.Omega.{arith}
 use mathlib.Core.Path.{refl, ap}
 use lib.ListN.{length}
-use Rattle.request.specs.Set.{tags_of}
 use Rattle.types.specs.Units.{units_in}
 use Rattle.versioned_group_data.specs.Members.{members_at}
 use Rattle.versioned_group_data.proofs.UpdateBuilding.{write_turn, members_built}
