@@ -5,7 +5,7 @@ use mathlib.Core.Bool.{true}
 use mathlib.Core.List.{List, [], ◌∷◌, ◌++◌, map, append_assoc, append-nil}
 use Prim.Native.Nat.{ℕ, suc, ◌+◌, ◌-◌, ◌*◌, ◌≤◌, ◌<◌}
 use native.Mathlib.Omega.{arith}
-use lib.ListN.{length, get_or, take, drop, replicate, length-append, length-drop}
+use lib.ListN.{length, get_or, take, drop, replicate, length-append}
 use lib.Seq.{drop-drop}
 use Rattle.lists.specs.Lists.{every}
 use Rattle.lists.proofs.Bools.{and_both, and_left, and_right}
@@ -64,14 +64,6 @@ first_again ts ts' f g e h l d = first_cons ts ts' f e (omega arith) d
 
 pub first_empty : (low high f : ℕ) → f ≡ get_or (tags_of low high) 0 most_tags → most_tags ≤ f → tags_of low high ≡ []
 first_empty low high f e h = first_none low high (omega arith)
-
--- How many tags there are then, and how many after the first.
-pub first_some : (ts : List ℕ) (f : ℕ) → f ≡ get_or ts 0 most_tags → f < most_tags → 0 < length ts
-first_some [] f e l = absurd (omega arith)
-first_some (t ∷ ts) f e l = omega arith
-
-pub rest_fewer : (ts ts' : List ℕ) (f : ℕ) → f ≡ get_or ts 0 most_tags → f < most_tags → ts' ≡ drop 1 ts → length ts ≡ length ts' + 1
-rest_fewer ts ts' f e l d = omega (arith, first_some ts f e l, ap length d ∙ length-drop 1 ts)
 
 -- What is left to write of an update: the members of tags, from slot j on, with values from `from` on.
 unfoldable pub write_rest_lem : ℕ → ℕ → ℕ → List ℕ → ℕ → List ℕ → ℕ → List ℕ → List ℕ
@@ -136,12 +128,12 @@ module _ (k p i : ℕ) (t : List ℕ) where
       ∙ write_rest ts from at [] s refl h l
 
   -- the loop's end
-  pub members_built : (low high j from : ℕ) (s : List ℕ) (f : ℕ) → f ≡ get_or (tags_of low high) 0 most_tags → most_tags ≤ f → (ts : List ℕ) (at i₀ : ℕ) (s₀ : List ℕ) →
+  pub members_built : (low high j from : ℕ) (s : List ℕ) → tags_of low high ≡ [] → (ts : List ℕ) (at i₀ : ℕ) (s₀ : List ℕ) →
       i₀ + length ts ≤ units_in (length s₀) → at + value_width * length ts ≤ length t →
       write_rest_lem k p i t j (tags_of low high) from s ≡ write_rest_lem k p i t i₀ ts at s₀ →
       s ≡ written_from i₀ (map (member_slot (row_at k p (done_update i []))) (members_of ts (drop at t))) s₀
-  members_built low high j from s f e g ts at i₀ s₀ h l inv =
-      write_end (tags_of low high) j from s (write_rest_lem k p i t i₀ ts at s₀) (first_empty low high f e g) inv
+  members_built low high j from s e ts at i₀ s₀ h l inv =
+      write_end (tags_of low high) j from s (write_rest_lem k p i t i₀ ts at s₀) e inv
       ∙ write_none ts at i₀ s₀ (omega arith) l
 
   -- an update's slots: its own, then its members'
