@@ -12,6 +12,8 @@ use directory::cells::{CellWords, Place, set_word};
 use directory::edits::{put_cell, take_cell};
 use moves::copy_within;
 
+// Kept: words and units as parameters, and `Valid` as a clause. A view that carries the rule, as `Rows`, would be taken apart at each write of a word.
+
 // The marks of a row, which keep its part. Contents stay where they are, and so does every word but the third of the row's cell.
 pub fn set_marks<const WIDTH: usize, const PARTS: usize>(
     s: &mut [u32],

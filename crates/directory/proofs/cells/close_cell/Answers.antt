@@ -1,7 +1,6 @@
 -- `directory::cells::close_cell` meets its contract: words moved down, then four written.
 -- Assumes nothing.
 use native.Mathlib.Omega.{arith}
-use lib.ListN.{length-set}
 use Rattle.moves.proofs.Turns.{clear_down}
 use Rattle.directory.proofs.Editing.{closed}
 use Rattle.directory.proofs.cells.close_cell.Goals as goal
@@ -9,15 +8,6 @@ use Rattle.directory.proofs.cells.close_cell.Goals as goal
 pub copy_within-requires : goal.copy_within-requires
 copy_within-requires c =
     record { into = omega arith; inside = omega arith; clear = clear_down _ _ _ (omega arith) }
-
-pub bounds-s-last-2 : goal.bounds-s-last-2
-bounds-s-last-2 c = simp length-set (omega arith)
-
-pub bounds-s-last-3 : goal.bounds-s-last-3
-bounds-s-last-3 c = simp length-set (omega arith)
-
-pub bounds-s-a-2 : goal.bounds-s-a-2
-bounds-s-a-2 c = simp length-set (omega arith)
 
 pub returns : goal.returns
 returns c =

@@ -1,11 +1,7 @@
 -- `directory::search::next` meets its contract.
 -- Assumes nothing.
-use native.Mathlib.Omega.{arith}
 use Rattle.directory.proofs.Positions.{stands_after, after_next}
 use Rattle.directory.proofs.search.next.Goals as goal
-
-pub overflow_add-at : goal.overflow_add-at
-overflow_add-at c = omega (arith, c.requires.directory.counts _ c.requires.there.inside, c.requires.there.fits)
 
 pub cell_after-requires : goal.cell_after-requires
 cell_after-requires c =

@@ -1,8 +1,6 @@
 -- `directory::shifts::close_page` meets its contract.
 -- Assumes nothing.
-use mathlib.Core.Path.{◌∙◌}
 use native.Mathlib.Omega.{arith}
-use lib.ListN.{length-set}
 use Rattle.moves.proofs.Turns.{clear_down}
 use Rattle.directory.proofs.Shifting.{page_out}
 use Rattle.directory.proofs.shifts.close_page.Goals as goal
@@ -10,9 +8,6 @@ use Rattle.directory.proofs.shifts.close_page.Goals as goal
 pub copy_within-requires : goal.copy_within-requires
 copy_within-requires c =
     record { into = omega arith; inside = omega arith; clear = clear_down _ _ _ (omega arith) }
-
-pub shape_of-s : goal.shape_of-s
-shape_of-s c = simp length-set (c.clear.ensures.cleared.size ∙ c.copy_within.ensures.copied.size)
 
 pub returns : goal.returns
 returns c =

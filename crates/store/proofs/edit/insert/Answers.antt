@@ -4,32 +4,11 @@ use mathlib.Core.Path.{refl}
 use Rattle.store.specs.Held.{base_of}
 use Rattle.store.proofs.Inserting.{open_few, open_room, put_requires, put_left}
 use native.Mathlib.Omega.{arith}
-use borrow.Author.Rules.{rules}
 use Rattle.store.proofs.edit.insert.Goals as goal
-
-pub overflow_mul-to : goal.overflow_mul-to
-overflow_mul-to g c =
-    omega (arith, open_room _ _ _ _ c.requires.valid c.requires.free, c.requires.valid.wide)
-
-pub overflow_add-to : goal.overflow_add-to
-overflow_add-to g c =
-    omega (arith, open_room _ _ _ _ c.requires.valid c.requires.free, c.requires.valid.wide)
 
 pub open_payload-requires : goal.open_payload-requires
 open_payload-requires g c =
     record { low = omega arith; inside = omega (arith, open_room _ _ _ _ c.requires.valid c.requires.free, c.requires.valid.wide); small = omega (arith, open_few _ _ _ _ c.requires.valid c.requires.free) }
-
-pub overflow_mul-n : goal.overflow_mul-n
-unfolding base_of
-overflow_mul-n g c = search rules
-
-pub overflow_add-n : goal.overflow_add-n
-unfolding base_of
-overflow_add-n g c = search rules
-
-pub overflow_add-new : goal.overflow_add-new
-overflow_add-new g c =
-    omega (arith, open_few _ _ _ _ c.requires.valid c.requires.free)
 
 pub put_cell-requires : goal.put_cell-requires
 unfolding base_of
@@ -37,10 +16,6 @@ put_cell-requires g c =
     let r = put_requires _ _ _ _ _ _ _ _ _ _ _ c.requires.valid c.requires.free c.requires.small c.requires.whole c.open_payload.ensures.opened _ _ c.requires.stands
     c.requires.order in
     record { directory = r.0; stands = r.1.0; free = r.1.1.0; order = r.1.1.1.0; few = r.1.1.1.1 }
-
-pub overflow_add-result : goal.overflow_add-result
-overflow_add-result g c =
-    omega (arith, open_room _ _ _ _ c.requires.valid c.requires.free, c.requires.valid.wide)
 
 pub returns : goal.returns
 unfolding base_of
