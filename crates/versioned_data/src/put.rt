@@ -114,6 +114,7 @@ pub fn write_in(
     ensures put { PutIn s.old key place row.page row.cell (rule.done (rule.write incarnation (value_at at t.now))) (result_number result) s.new }
 {
     let n = units(s);
+    // Kept: a test and no `?`. Three must-fail edits turn it round, and their goals keep its name: a rule of the project.
     let enough = enough_for_more(s, n);
     if !enough.is_ok() {
         return enough;
