@@ -5,7 +5,7 @@ use mathlib.Core.Bool.{true}
 use mathlib.Core.List.{List, [], ◌∷◌, ◌++◌, map, append_assoc, append-nil}
 use Prim.Native.Nat.{ℕ, suc, ◌+◌, ◌-◌, ◌*◌, ◌≤◌, ◌<◌}
 use native.Mathlib.Omega.{arith}
-use lib.ListN.{length, get_or, take, drop, replicate, length-append, length-drop}
+use lib.ListN.{length, get_or, take, drop, replicate, length-append}
 use lib.Seq.{drop-drop}
 use Rattle.lists.specs.Lists.{every}
 use Rattle.lists.proofs.Bools.{and_both, and_left, and_right}
@@ -64,14 +64,6 @@ first_again ts ts' f g e h l d = first_cons ts ts' f e (omega arith) d
 
 pub first_empty : (low high f : ℕ) → f ≡ get_or (tags_of low high) 0 most_tags → most_tags ≤ f → tags_of low high ≡ []
 first_empty low high f e h = first_none low high (omega arith)
-
--- How many tags there are then, and how many after the first.
-pub first_some : (ts : List ℕ) (f : ℕ) → f ≡ get_or ts 0 most_tags → f < most_tags → 0 < length ts
-first_some [] f e l = absurd (omega arith)
-first_some (t ∷ ts) f e l = omega arith
-
-pub rest_fewer : (ts ts' : List ℕ) (f : ℕ) → f ≡ get_or ts 0 most_tags → f < most_tags → ts' ≡ drop 1 ts → length ts ≡ length ts' + 1
-rest_fewer ts ts' f e l d = omega (arith, first_some ts f e l, ap length d ∙ length-drop 1 ts)
 
 -- What is left to write of an update: the members of tags, from slot j on, with values from `from` on.
 unfoldable pub write_rest_lem : ℕ → ℕ → ℕ → List ℕ → ℕ → List ℕ → ℕ → List ℕ → List ℕ
