@@ -3,7 +3,6 @@ ghost use Rattle.std.specs.Prelude.{◌≡◌, length};
 ghost use Rattle.types.specs.Refusal.{result_number};
 ghost use Rattle.types.specs.Units.{units_in, lack_of};
 
-use super::refusal;
 use super::refusal::Refusal;
 
 // How many units a store has.
@@ -23,15 +22,4 @@ pub fn enough(held: usize, slots: usize) -> Result<(), Refusal>
         return Err(Refusal::UnitsExhausted);
     }
     Ok(())
-}
-
-// For the units that a store would hold and those that it has: 0 where they suffice, else the number of the refusal.
-#[tactic(auto, unfolding(crate::specs::Units::lack_of))]
-pub fn lack_of(held: usize, slots: usize) -> u32
-    ensures lack { result ≡ lack_of held slots }
-{
-    if held <= slots {
-        return 0;
-    }
-    refusal::UNITS_EXHAUSTED
 }
