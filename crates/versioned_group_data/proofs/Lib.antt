@@ -1,6 +1,7 @@
 pub mod CommitOrder
 pub mod ReadTallies
 pub mod ReadDowns
+pub mod Results
 pub mod ReadTurns
 pub mod ReadStarts
 pub mod GroupRulings

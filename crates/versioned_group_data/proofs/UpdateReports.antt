@@ -7,7 +7,6 @@ use mathlib.Core.Option.{Option, none, some}
 use Prim.Native.Nat.{ℕ, ◌+◌}
 use native.Mathlib.Omega.{arith}
 use lib.ListN.{drop}
-use borrow.Author.Tests.{eq-eqb, ne_eqb}
 use Rattle.types.specs.Value.{value_width}
 use Rattle.request.specs.Set.{Member, tags_of, members_of}
 use Rattle.request.specs.declared.set.Set.{Set}
@@ -22,7 +21,10 @@ use Rattle.group_slots.specs.Found.{member_found, start_of, lower_in}
 use Rattle.versioned_group_data.specs.Ruled.{editing, result_of, words_after, Ruled}
 use Rattle.versioned_group_data.specs.Members.{done_update, members_at, recording}
 use Rattle.versioned_group_data.specs.Written.{Writes, written_of}
-use Rattle.versioned_group_data.specs.declared.update.Written.TheVariants.{Refused, Done, Outside}
+use Rattle.versioned_group_data.specs.declared.update.Written.TheVariants.{Done, Outside}
+use Rattle.versioned_group_data.specs.declared.update.Written.{Written}
+use Rattle.types.specs.Refusal.{refusal_number}
+use Rattle.types.specs.declared.refusal.Refusal.{Refusal}
 
 -- the values play no part
 outside_words : (ts ws vs : List ℕ) (es : List Member) → outside (members_of ts ws) es ≡ outside (members_of ts vs) es
@@ -92,21 +94,16 @@ module _ (s : List ℕ) (k p q : ℕ) (same : q ≡ p) (i : ℕ) (tags : Set) (a
       ∙ outside_words (tags_of tags.low tags.high) [] (drop at t) (members_in (find k q (groups_in s).updates))
       ∙ ap (λ (x : ℕ). outside ms (members_in (find k x (groups_in s).updates))) same
 
-  writes : Writes s k p i ms (written_of n b) after
-  writes =
-      record {
-        answer = ap (λ (x : ℕ). written_of x b) result_is ∙ ap (written_of (result_of s (editing (groups_in s) k p (write_group i ms)))) report_is;
-        words = words_are;
-      }
+  pub write_refused : (e : Refusal) → refusal_number e ≡ n → Writes s k p i ms (Err e) after
+  write_refused e h = record { result = h ∙ result_is; answer = tt; words = words_are }
 
-  pub write_refused : (n ≡ 0 → ⊥) → Writes s k p i ms (Refused n) after
-  unfolding written_of
-  write_refused h = rw (ne_eqb n 0 h) at writes
+  write_ok : (w : Written) → n ≡ 0 → w ≡ written_of b → Writes s k p i ms (Ok w) after
+  write_ok w h e = record { result = sym h ∙ result_is; answer = e ∙ ap written_of report_is; words = words_are }
 
-  pub write_outside : n ≡ 0 → b ≡ true → Writes s k p i ms Outside after
+  pub write_outside : n ≡ 0 → b ≡ true → Writes s k p i ms (Ok Outside) after
   unfolding written_of
-  write_outside h e = rw (eq-eqb n 0 h, e) at writes
+  write_outside h e = write_ok Outside h (rw e)
 
-  pub write_done : n ≡ 0 → b ≡ false → Writes s k p i ms Done after
+  pub write_done : n ≡ 0 → b ≡ false → Writes s k p i ms (Ok Done) after
   unfolding written_of
-  write_done h e = rw (eq-eqb n 0 h, e) at writes
+  write_done h e = write_ok Done h (rw e)

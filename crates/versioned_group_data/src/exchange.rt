@@ -1,5 +1,6 @@
 // `update_tagged_base_value_with_layout` of versioned_group_data.rs: identifiers in a base value are exchanged, there and where it is committed.
 ghost use Rattle.std.specs.Prelude.{◌≡◌, true, ◌+◌, ◌*◌, ◌≤◌, ◌<◌, length};
+ghost use Rattle.types.specs.Refusal.{result_number};
 ghost use Rattle.types.specs.Value.{value_at, value_width, is_exchanged};
 ghost use Rattle.slots.specs.Slots.{slot_width, slot_at, written};
 ghost use Rattle.types.specs.Units.{units_in};
@@ -13,7 +14,7 @@ use group_slots::layout;
 use slots::edit::copy_words;
 use slots::slot::SLOT_WIDTH;
 use types::index::ShiftedTxnIndex;
-use types::refusal;
+use types::refusal::Refusal;
 use types::value::{VALUE_WIDTH, ValueWithLayout};
 
 // Whether the value of slot i is `Exchanged`.
@@ -33,41 +34,41 @@ fn write_value(s: &mut [u32], i: usize, t: &[u32], at: usize)
     copy_words(s, SLOT_WIDTH * i + layout::VALUE, t, at, VALUE_WIDTH);
 }
 
-// The base and the committed value are exchanged together. 6 stands for the Rust's panic at a base that is not there, 12 for that at a committed
-// value that is not raw.
+// The base and the committed value are exchanged together. `NothingThere` stands for the Rust's panic at a base that is not there, `NothingToExchange`
+// for that at a committed value that is not raw.
 pub fn update_tagged_base_value_with_layout(
     s: &mut [u32],
     key: u32,
     tag: u32,
     t: &[u32],
     at: usize,
-) -> u32
+) -> Result<(), Refusal>
     requires valid { group_valid s.old ≡ true }
     requires tag { «tag» ≤ 63 }
     requires inside { at + value_width ≤ length t.now }
     ensures exchanged { Ruled s.old
-        (committing (groups_in s.old) key 0 (rule.update_tagged_base_value key «tag» (value_at at t.now))) result
-        s.new }
+        (committing (groups_in s.old) key 0 (rule.update_tagged_base_value key «tag» (value_at at t.now)))
+        (result_number result) s.new }
 {
     match find_member(s, key, ShiftedTxnIndex::zero_idx(), tag) {
         Err(_) => {
-            return refusal::NOTHING_THERE;
+            return Err(Refusal::NothingThere);
         }
         Ok(i) => {
             if is_exchanged(s, i) {
-                return 0;
+                return Ok(());
             }
             match find_committed(s, key, tag) {
                 Err(_) => {
-                    return refusal::NOTHING_TO_EXCHANGE;
+                    return Err(Refusal::NothingToExchange);
                 }
                 Ok(j) => {
                     if is_exchanged(s, j) {
-                        return refusal::NOTHING_TO_EXCHANGE;
+                        return Err(Refusal::NothingToExchange);
                     }
                     write_value(s, i, t, at);
                     write_value(s, j, t, at);
-                    return 0;
+                    return Ok(());
                 }
             }
         }

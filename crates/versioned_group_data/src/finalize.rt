@@ -1,6 +1,7 @@
 // `finalize_group` of versioned_group_data.rs.
 ghost use Rattle.std.specs.Prelude.{◌≡◌, true, suc, ◌≤◌, ◌<◌, length};
 ghost use Rattle.types.specs.Index.{index_bound};
+ghost use Rattle.types.specs.Refusal.{result_number};
 ghost use Rattle.types.specs.Response.{answer_width};
 ghost use Rattle.model.specs.Group as rule;
 ghost use Rattle.group_slots.specs.Layout.{group_valid, groups_in};
@@ -12,31 +13,33 @@ use crate::committed::get_last_committed_group;
 use group_slots::find::find_update;
 use group_slots::layout;
 use types::index::{ShiftedTxnIndex, TxnIndex};
-use types::refusal;
+use types::refusal::Refusal;
 use types::response::MOST_TAGS;
 use types::value::VALUE_WIDTH;
 
-// Commits the update of a transaction and answers the committed group. 6 stands for the Rust's error at an update that is not there.
-pub fn finalize_group(s: &mut [u32], key: u32, txn_idx: TxnIndex, out: &mut [u32]) -> u32
+// Commits the update of a transaction and answers the committed group. `NothingThere` stands for the Rust's error at an update that is not there.
+pub fn finalize_group(
+    s: &mut [u32],
+    key: u32,
+    txn_idx: TxnIndex,
+    out: &mut [u32],
+) -> Result<(), Refusal>
     requires valid { group_valid s.old ≡ true }
     requires served { txn_idx < index_bound }
     requires room { answer_width ≤ length out.old }
-    ensures finalized { Answered s.old out.old (committing (groups_in s.old) key (suc txn_idx) (rule.finalize_group key)) result
-        s.new out.new }
+    ensures finalized { Answered s.old out.old (committing (groups_in s.old) key (suc txn_idx) (rule.finalize_group key))
+        (result_number result) s.new out.new }
 {
     let run = find_update(s, key, ShiftedTxnIndex::new(txn_idx));
     if run.len == 0 {
-        return refusal::NOTHING_THERE;
+        return Err(Refusal::NothingThere);
     }
     let first = run.at + 1;
     let n = run.len - 1;
     let set = set_words(collect_tags(s, first, n, layout::PART, 1));
     let mut values = [0u32; MOST_TAGS * VALUE_WIDTH];
     collect_values(s, first, n, &mut values, 0);
-    let result = try_commit(s, key, set, &values, 0, 0);
-    if result != 0 {
-        return result;
-    }
+    try_commit(s, key, set, &values, 0, 0)?;
     get_last_committed_group(s, key, out);
-    0
+    Ok(())
 }

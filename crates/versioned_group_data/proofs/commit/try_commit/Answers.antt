@@ -1,10 +1,12 @@
 -- `versioned_group_data::commit::try_commit` meets its contract.
 -- Assumes nothing.
-use mathlib.Core.Path.{refl}
+use mathlib.Core.Path.{refl, ◌∙◌}
+use Rattle.std.proofs.lemmas.Result.{err_from_is_err_and}
 use native.Mathlib.Omega.{arith}
 use lib.ListN.{length}
 use Rattle.types.specs.Units.{units_in}
 use Rattle.versioned_group_data.proofs.CommitTried.{growth_small, deletions_few, tried_refused, tried_full, tried_fits, tried_done}
+use Rattle.versioned_group_data.proofs.Results.{refusal_some, none_refused, number_refused}
 use Rattle.group_slots.proofs.GroupHolding.{packed_valid}
 use Rattle.slots.proofs.StoreEncoding.{held_fits}
 use Rattle.slots.proofs.StoreWords.{slots_few}
@@ -30,14 +32,15 @@ pub overflow_sub-held : goal.overflow_sub-held
 overflow_sub-held c =
     deletions_few _ c.requires.valid _ _ c.requires.members c.args.more _ c.growth_of-growth.ensures.growth c.if-not-growth.false (units_in (length c.args.s.now)) _ refl c.used.ensures.used
 
-pub returns-then-lack-ne0 : goal.returns-then-lack-ne0
-returns-then-lack-ne0 c =
-    record { tried = tried_full _ c.requires.valid _ _ c.requires.members c.args.more _ c.growth_of-growth.ensures.growth c.if-not-growth.false _ _ c.units.ensures.units c.used.ensures.used _ c.lack_of-lack.ensures.lack c.if-lack-ne0.true }
+pub returns-in_err-enough : goal.returns-in_err-enough
+returns-in_err-enough c =
+    let p = err_from_is_err_and c.from_residual.result c.from_residual.ensures.1 in
+    rw (p.1, p.2) (record { tried = tried_full _ c.requires.valid _ _ c.requires.members c.args.more _ c.growth_of-growth.ensures.growth c.if-not-growth.false _ _ c.units.ensures.units c.used.ensures.used _ (number_refused _ _ c.in_err-enough.was ∙ c.enough.ensures.lack) (refusal_some _) })
 
 pub commit-requires : goal.commit-requires
 commit-requires c =
-    record { valid = c.requires.valid; inside = c.requires.inside; members = c.requires.members; fits = tried_fits _ c.requires.valid _ _ c.requires.members c.args.more _ c.growth_of-growth.ensures.growth c.if-not-growth.false _ _ c.units.ensures.units c.used.ensures.used _ c.lack_of-lack.ensures.lack c.if-lack-ne0.false }
+    record { valid = c.requires.valid; inside = c.requires.inside; members = c.requires.members; fits = tried_fits _ c.requires.valid _ _ c.requires.members c.args.more _ c.growth_of-growth.ensures.growth c.if-not-growth.false _ _ c.units.ensures.units c.used.ensures.used _ c.enough.ensures.lack (none_refused _ _ c.in_ok-enough.was) }
 
 pub returns : goal.returns
 returns c =
-    record { tried = tried_done _ c.requires.valid _ _ c.requires.members c.args.more _ c.growth_of-growth.ensures.growth c.if-not-growth.false _ _ c.units.ensures.units c.used.ensures.used _ c.lack_of-lack.ensures.lack c.if-lack-ne0.false _ c.commit.ensures.committed }
+    record { tried = tried_done _ c.requires.valid _ _ c.requires.members c.args.more _ c.growth_of-growth.ensures.growth c.if-not-growth.false _ _ c.units.ensures.units c.used.ensures.used _ c.enough.ensures.lack (none_refused _ _ c.in_ok-enough.was) _ c.commit.ensures.committed }

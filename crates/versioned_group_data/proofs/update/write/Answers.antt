@@ -1,17 +1,20 @@
 -- `versioned_group_data::update::write` meets its contract.
 -- Assumes nothing.
+use Rattle.versioned_group_data.proofs.Results.{none_refused, number_refused}
+use Rattle.std.proofs.lemmas.Result.{err_from_is_err_and}
 use Rattle.types.proofs.IndexLaws.{shifted_word}
 use Rattle.versioned_group_data.proofs.UpdateReports.{write_refused, write_outside, write_done}
 use Rattle.versioned_group_data.proofs.update.write.Goals as goal
 
-pub returns-then-refused-ne0 : goal.returns-then-refused-ne0
-returns-then-refused-ne0 c =
-    record { written = write_refused _ _ _ _ (shifted_word _ _ c.new-place.ensures.shifted) _ _ _ _ _ c.writes_outside-outside.ensures.outside _ _ c.put_update-refused.ensures.recorded c.if-refused-ne0.true }
+pub returns-in_err-put_update : goal.returns-in_err-put_update
+returns-in_err-put_update c =
+    let p = err_from_is_err_and c.from_residual.result c.from_residual.ensures.1 in
+    rw (p.1, p.2) (record { written = write_refused _ _ _ _ (shifted_word _ _ c.new-place.ensures.shifted) _ _ _ _ _ c.writes_outside-outside.ensures.outside _ _ c.put_update.ensures.recorded _ (number_refused _ _ c.in_err-put_update.was) })
 
 pub returns-then-outside : goal.returns-then-outside
 returns-then-outside c =
-    record { written = write_outside _ _ _ _ (shifted_word _ _ c.new-place.ensures.shifted) _ _ _ _ _ c.writes_outside-outside.ensures.outside _ _ c.put_update-refused.ensures.recorded c.if-refused-ne0.false c.if-outside.true }
+    record { written = write_outside _ _ _ _ (shifted_word _ _ c.new-place.ensures.shifted) _ _ _ _ _ c.writes_outside-outside.ensures.outside _ _ c.put_update.ensures.recorded (none_refused _ _ c.in_ok-put_update.was) c.if-outside.true }
 
 pub returns : goal.returns
 returns c =
-    record { written = write_done _ _ _ _ (shifted_word _ _ c.new-place.ensures.shifted) _ _ _ _ _ c.writes_outside-outside.ensures.outside _ _ c.put_update-refused.ensures.recorded c.if-refused-ne0.false c.if-outside.false }
+    record { written = write_done _ _ _ _ (shifted_word _ _ c.new-place.ensures.shifted) _ _ _ _ _ c.writes_outside-outside.ensures.outside _ _ c.put_update.ensures.recorded (none_refused _ _ c.in_ok-put_update.was) c.if-outside.false }
