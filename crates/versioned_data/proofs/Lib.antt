@@ -22,5 +22,6 @@ pub mod WalkSteps
 pub mod WalkBounds
 pub mod WalkFolds
 pub mod EntryLacks
+pub mod Passed
 pub mod ShortcutWords
 pub mod MaterializeRulings

@@ -19,6 +19,7 @@ use Rattle.types.specs.Refusal.{nothing_there, layout_under_delta, no_number_und
 use Rattle.types.specs.Response.{response, resolved_kind, unresolved_kind}
 use Rattle.delta.specs.declared.DeltaOp.{DeltaOp}
 use Rattle.types.specs.declared.refusal.Refusal.{Refusal}
+use Rattle.types.specs.declared.refusal.Refusal.TheVariants.{NothingThere}
 use Rattle.types.specs.declared.index.ShiftedTxnIndex.{ShiftedTxnIndex}
 use Rattle.types.specs.declared.output.MVDataOutput as output
 use Rattle.types.specs.declared.output.MVDataOutput.TheVariants as found
@@ -33,11 +34,9 @@ use Rattle.versioned_data.specs.Layout.{StoreRow, entry_of, entries_in, data_val
 use Rattle.versioned_data.specs.Left.{LeftBy}
 use Rattle.versioned_data.specs.Found.{row_found, Here, FoundIn, PutOver}
 use Rattle.versioned_data.specs.Output.{refusal_output, output_of}
-use Rattle.versioned_data.specs.Materialize.{materialized_read, materialized_of, Materializes, shortcut_entry}
+use Rattle.versioned_data.specs.Materialize.{Materialized, Refused, Resolved, Unresolved, told_by, materialized_read, materialized_of, Materializes, shortcut_entry}
 use Rattle.std.specs.Prelude.{Result, Ok, Err}
 use Rattle.directory.specs.declared.cells.Place.{Place}
-use Rattle.versioned_data.specs.declared.materialize.Materialized.{Materialized}
-use Rattle.versioned_data.specs.declared.materialize.Materialized.TheVariants.{Refused, Resolved, Unresolved}
 use Rattle.versioned_data.proofs.EntriesHeld.{every_valid}
 use Rattle.versioned_data.proofs.WalkBounds.{read_by}
 use Rattle.versioned_data.proofs.EntryRulings.{entry_fine, edited_left, edited_over}
@@ -71,7 +70,7 @@ unfolding shortcut_entry
 shortcut_fine p above n u h f = shortcut_cell p above (entry_of u).held.estimate n (entry_of u).held.cell (number_tell n h) f
 
 module _ (s : List ℕ) (v : data_valid s ≡ true) (k p : ℕ) (big : k < 4294967296) (small : p < 4294967296) (above : 0 < p) (n : Number) (f : Result Place Place) (t : FoundIn s k p f) (c : Place) where
-  pub resolve_refused : f ≡ Err c → Materializes s k p (record_shortcut (value_of n)) (resolved (value_of n)) (Refused nothing_there) s
+  pub resolve_refused : f ≡ Err c → Materializes s k p (record_shortcut (value_of n)) (resolved (value_of n)) (Err NothingThere) s
   resolve_refused e =
       let m : record_shortcut (value_of n) (find k p (entries_in s)) ≡ refuse nothing_there = record_none (value_of n) (find k p (entries_in s)) (found_gone s k p f t c e).entry in
       record {
@@ -80,7 +79,7 @@ module _ (s : List ℕ) (v : data_valid s ≡ true) (k p : ℕ) (big : k < 42949
       }
 
   pub resolve_done : f ≡ Ok c → Halves n → (after : List ℕ) → PutOver s c.page c.cell (shortcut_entry (value_of n) (row_found s c.page c.cell)) after →
-      Materializes s k p (record_shortcut (value_of n)) (resolved (value_of n)) (Resolved n) after
+      Materializes s k p (record_shortcut (value_of n)) (resolved (value_of n)) (Ok (Ok n)) after
   resolve_done e h after put =
       let x : Here s k p c.page c.cell = found_here s k p f t c e in
       let u : StoreRow = row_found s c.page c.cell in
@@ -171,25 +170,25 @@ resolved_has (refusal m) n G e h = absurd (let z : ◌≡◌ {A = ℕ} 0 1 = cc 
 -- ---- the operation
 
 module _ (s : List ℕ) (v : data_valid s ≡ true) (k index : ℕ) (bound : ShiftedTxnIndex) (next : bound ≡ shifted_of (shift (index + 1))) (o : Result output.MVDataOutput Refusal) (walked : o ≡ output_of (read_of (down_from k (word_of bound - 1) (entries_in s)))) where
-  abbrev pub Done : Materialized → List ℕ → Type 0
+  abbrev pub Done : Result (Result Number DeltaOp) Refusal → List ℕ → Type 0
   Done r after = Materializes s k (suc index) (λ own. materialize_delta own (down_from k (suc index) (entries_in s))) (read_of (down_from k (suc index) (entries_in s))) r after
 
   -- the bound of the read is the index plus 1, shifted
   read : o ≡ output_of (read_of (down_from k (suc index) (entries_in s)))
   read = read_by s v k (index + 1) bound next o walked ∙ ap (λ (j : ℕ). output_of (read_of (down_from k j (entries_in s)))) (add-one index)
 
-  pub materialize_other : (x : Result output.MVDataOutput Refusal) → o ≡ x → resolves x ≡ false → Done (unrecorded x) s
+  pub materialize_other : (x : Result output.MVDataOutput Refusal) → o ≡ x → resolves x ≡ false → (r : Result (Result Number DeltaOp) Refusal) → told_by r ≡ unrecorded x → Done r s
   unfolding materialize_delta
-  materialize_other x e h =
+  materialize_other x e h r told =
       let seen : Read = read_of (down_from k (suc index) (entries_in s)) in
       let own : Option Entry = find k (suc index) (entries_in s) in
       let other : resolves (output_of seen) ≡ false = ap resolves (sym read ∙ e) ∙ h in
       record {
-        answer = ap unrecorded (sym e ∙ read) ∙ answer_other s v k (suc index) own seen (read_of_down_from_fine k (suc index) (entries_in s) (every_valid s v)) other;
+        answer = told ∙ ap unrecorded (sym e ∙ read) ∙ answer_other s v k (suc index) own seen (read_of_down_from_fine k (suc index) (entries_in s) (every_valid s v)) other;
         left = left_other s v k (suc index) own seen other;
       }
 
-  pub materialize_resolved : (n : Number) → o ≡ Ok (found.Resolved n) → (q : ℕ) → q ≡ suc index → (r : Materialized) (after : List ℕ) →
+  pub materialize_resolved : (n : Number) → o ≡ Ok (found.Resolved n) → (q : ℕ) → q ≡ suc index → (r : Result (Result Number DeltaOp) Refusal) (after : List ℕ) →
       Materializes s k q (record_shortcut (value_of n)) (resolved (value_of n)) r after → Done r after
   unfolding materialize_delta materialized
   materialize_resolved n t q place r after w =

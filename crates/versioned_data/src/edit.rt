@@ -2,6 +2,7 @@
 ghost use Rattle.std.specs.Prelude.{◌≡◌, true, suc, ◌+◌, ◌≤◌, ◌<◌, length, take, drop};
 ghost use Rattle.delta.specs.Delta.{delta_width, delta_at, delta_ok};
 ghost use Rattle.types.specs.Index.{index_bound};
+ghost use Rattle.types.specs.Refusal.{result_number};
 ghost use Rattle.types.specs.Value.{value_at, value_width, value_ok, is_exchanged};
 ghost use Rattle.model.specs.Data as rule;
 ghost use Rattle.versioned_data.specs.Layout.{data_valid};
@@ -18,7 +19,7 @@ use directory::cells::Place;
 use store::edit::{erase, set_marks};
 use store::read::Rows;
 use types::index::{Incarnation, ShiftedTxnIndex, TxnIndex};
-use types::refusal;
+use types::refusal::Refusal;
 use types::units::units;
 use types::value::ValueWithLayout;
 
@@ -64,12 +65,18 @@ fn base_at(s: &[u32], found: Result<Place, Place>, t: &[u32], at: usize) -> Base
 }
 
 // A delta always replaces what is there.
-pub fn add_delta(s: &mut [u32], key: u32, txn_idx: TxnIndex, t: &[u32], at: usize) -> u32
+pub fn add_delta(
+    s: &mut [u32],
+    key: u32,
+    txn_idx: TxnIndex,
+    t: &[u32],
+    at: usize,
+) -> Result<(), Refusal>
     requires valid { data_valid s.old ≡ true }
     requires served { txn_idx < index_bound }
     requires inside { at + delta_width ≤ length t.now }
     requires delta { delta_ok (take delta_width (drop at t.now)) ≡ true }
-    ensures edited { Edited s.old key (suc txn_idx) (rule.add_delta (delta_at (take delta_width (drop at t.now)))) result s.new }
+    ensures edited { Edited s.old key (suc txn_idx) (rule.add_delta (delta_at (take delta_width (drop at t.now)))) (result_number result) s.new }
 {
     let place = ShiftedTxnIndex::new(txn_idx);
     let found = find_entry(s, key, place);
@@ -77,54 +84,54 @@ pub fn add_delta(s: &mut [u32], key: u32, txn_idx: TxnIndex, t: &[u32], at: usiz
 }
 
 // An entry that is not there is refused, where the Rust panics.
-pub fn mark_estimate(s: &mut [u32], key: u32, txn_idx: TxnIndex) -> u32
+pub fn mark_estimate(s: &mut [u32], key: u32, txn_idx: TxnIndex) -> Result<(), Refusal>
     requires valid { data_valid s.old ≡ true }
     requires served { txn_idx < index_bound }
-    ensures edited { Edited s.old key (suc txn_idx) rule.mark_estimate result s.new }
+    ensures edited { Edited s.old key (suc txn_idx) rule.mark_estimate (result_number result) s.new }
 {
     let found = find_entry(s, key, ShiftedTxnIndex::new(txn_idx));
     match found {
-        Err(_) => refusal::NOTHING_THERE,
+        Err(_) => Err(Refusal::NothingThere),
         Ok(row) => {
             let n = units(s);
             let rows: DataRows = Rows { words: s, units: n };
             let m = rows.marks_at(row);
             let marks = m % 4 + layout::ESTIMATE + 8 * (m / 8);
             set_marks::<WIDTH, PARTS>(s, n, row, marks);
-            0
+            Ok(())
         }
     }
 }
 
 // Here too the refusal stands for the Rust's panic.
-pub fn remove(s: &mut [u32], key: u32, txn_idx: TxnIndex) -> u32
+pub fn remove(s: &mut [u32], key: u32, txn_idx: TxnIndex) -> Result<(), Refusal>
     requires valid { data_valid s.old ≡ true }
     requires served { txn_idx < index_bound }
-    ensures edited { Edited s.old key (suc txn_idx) rule.remove result s.new }
+    ensures edited { Edited s.old key (suc txn_idx) rule.remove (result_number result) s.new }
 {
     let found = find_entry(s, key, ShiftedTxnIndex::new(txn_idx));
     match found {
-        Err(_) => refusal::NOTHING_THERE,
+        Err(_) => Err(Refusal::NothingThere),
         Ok(row) => {
             let n = units(s);
             erase::<WIDTH, PARTS>(s, n, row);
-            0
+            Ok(())
         }
     }
 }
 
 // For a base value, incarnation is irrelevant, and is always set to 0.
-pub fn set_base_value(s: &mut [u32], key: u32, t: &[u32], at: usize) -> u32
+pub fn set_base_value(s: &mut [u32], key: u32, t: &[u32], at: usize) -> Result<(), Refusal>
     requires valid { data_valid s.old ≡ true }
     requires inside { at + value_width ≤ length t.now }
     requires value { value_ok (value_at at t.now) ≡ true }
-    ensures edited { Edited s.old key 0 (rule.set_base_value (value_at at t.now)) result s.new }
+    ensures edited { Edited s.old key 0 (rule.set_base_value (value_at at t.now)) (result_number result) s.new }
 {
     let place = ShiftedTxnIndex::zero_idx();
     let found = find_entry(s, key, place);
     match base_at(s, found, t, at) {
-        Base::Keep => 0,
-        Base::Differs => refusal::BASE_DIFFERS,
+        Base::Keep => Ok(()),
+        Base::Differs => Err(Refusal::BaseDiffers),
         Base::Set => put_write(s, found, key, place.word(), 0, t, at),
     }
 }
@@ -137,18 +144,18 @@ pub fn write(
     incarnation: Incarnation,
     t: &[u32],
     at: usize,
-) -> u32
+) -> Result<(), Refusal>
     requires valid { data_valid s.old ≡ true }
     requires served { txn_idx < index_bound }
     requires inside { at + value_width ≤ length t.now }
     requires value { value_ok (value_at at t.now) ≡ true }
     requires exchanged { is_exchanged (value_at at t.now) ≡ true }
-    ensures edited { Edited s.old key (suc txn_idx) (rule.write_value incarnation (value_at at t.now)) result s.new }
+    ensures edited { Edited s.old key (suc txn_idx) (rule.write_value incarnation (value_at at t.now)) (result_number result) s.new }
 {
     let place = ShiftedTxnIndex::new(txn_idx);
     let found = find_entry(s, key, place);
     if !may_write(s, found, incarnation) {
-        return refusal::INCARNATION_NOT_HIGHER;
+        return Err(Refusal::IncarnationNotHigher);
     }
     put_write(s, found, key, place.word(), incarnation, t, at)
 }

@@ -19,16 +19,8 @@ use store::edit::set_marks;
 use store::read::Rows;
 use types::index::{ShiftedTxnIndex, TxnIndex};
 use types::output::MVDataOutput;
-use types::refusal;
+use types::refusal::Refusal;
 use types::units::units;
-
-// The Rust's `Result<u128, DeltaOp>`; where it panics, a refusal by its number.
-#[derive(Clone, Copy)]
-pub enum Materialized {
-    Refused(u32),
-    Resolved(Number),
-    Unresolved(DeltaOp),
-}
 
 // Records the value as a base value shortcut in the delta of a row. A write has none and is left as it is.
 fn record_delta_shortcut(s: &mut [u32], row: Place, v: Number)
@@ -49,34 +41,39 @@ fn record_delta_shortcut(s: &mut [u32], row: Place, v: Number)
 }
 
 // An entry that is not there is refused, where the Rust panics.
-fn resolve_at(s: &mut [u32], key: u32, at: ShiftedTxnIndex, v: Number) -> Materialized
+fn resolve_at(
+    s: &mut [u32],
+    key: u32,
+    at: ShiftedTxnIndex,
+    v: Number,
+) -> Result<Result<Number, DeltaOp>, Refusal>
     requires valid { data_valid s.old ≡ true }
     requires above_base { 0 < word_of at }
     ensures recorded { Materializes s.old key (word_of at) (rule.record_shortcut (value_of v)) (rule.resolved (value_of v)) result s.new }
 {
     let found = find_entry(s, key, at);
     match found {
-        Err(_) => Materialized::Refused(refusal::NOTHING_THERE),
+        Err(_) => Err(Refusal::NothingThere),
         Ok(row) => {
             record_delta_shortcut(s, row, v);
-            Materialized::Resolved(v)
+            Ok(Ok(v))
         }
     }
 }
 
-// +1 makes sure we include the delta from txn_idx.
-pub fn materialize_delta(s: &mut [u32], key: u32, txn_idx: TxnIndex) -> Materialized
+// The Rust's `Result<u128, DeltaOp>`; where it panics, a refusal. +1 makes sure we include the delta from txn_idx.
+pub fn materialize_delta(
+    s: &mut [u32],
+    key: u32,
+    txn_idx: TxnIndex,
+) -> Result<Result<Number, DeltaOp>, Refusal>
     requires valid { data_valid s.old ≡ true }
     requires served { txn_idx < materialize_bound }
     ensures materialized { Materializes s.old key (suc txn_idx) (λ own. rule.materialize_delta own (down_from key (suc txn_idx) (entries_in s.old))) (rule.read_of (down_from key (suc txn_idx) (entries_in s.old))) result s.new }
 {
-    let found = match read_at(s, key, ShiftedTxnIndex::new(txn_idx + 1)) {
-        Ok(found) => found,
-        Err(refusal) => return Materialized::Refused(refusal.number()),
-    };
-    match found {
+    match read_at(s, key, ShiftedTxnIndex::new(txn_idx + 1))? {
         MVDataOutput::Resolved(n) => resolve_at(s, key, ShiftedTxnIndex::new(txn_idx), n),
-        MVDataOutput::Unresolved(op) => Materialized::Unresolved(op),
-        _ => Materialized::Refused(refusal::NOT_MATERIALIZABLE),
+        MVDataOutput::Unresolved(op) => Ok(Err(op)),
+        _ => Err(Refusal::NotMaterializable),
     }
 }

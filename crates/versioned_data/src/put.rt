@@ -1,6 +1,7 @@
 // An entry is put where it was looked for: its content's words, and the marks of its row.
 ghost use Rattle.std.specs.Prelude.{◌≡◌, true, ◌+◌, ◌≤◌, ◌<◌, length};
 ghost use Rattle.delta.specs.Delta.{delta_width};
+ghost use Rattle.types.specs.Refusal.{result_number};
 ghost use Rattle.types.specs.Units.{units_in};
 ghost use Rattle.types.specs.Value.{value_at, value_width};
 ghost use Rattle.model.specs.Data as rule;
@@ -14,8 +15,8 @@ use directory::cells::Place;
 use moves::clear;
 use store::edit::{insert, set_marks};
 use store::read::Rows;
-use types::refusal;
-use types::units::{lack_of, units};
+use types::refusal::Refusal;
+use types::units::{enough, units};
 use types::value::VALUE_WIDTH;
 
 // m words of a request, from `at` on.
@@ -84,17 +85,17 @@ pub fn delta_over(s: &mut [u32], row: Place, t: &[u32], at: usize)
     set_marks::<WIDTH, PARTS>(s, n, row, m);
 }
 
-// The refusal of one row more where no unit is free for it, 0 where one is.
-fn lack_of_more(s: &[u32], n: usize) -> u32
+// Whether a unit is free for one row more.
+fn enough_for_more(s: &[u32], n: usize) -> Result<(), Refusal>
     requires valid { data_valid s.now ≡ true }
     requires units { n ≡ units_in (length s.now) }
-    ensures lack { result ≡ lack_of_more s.now }
+    ensures lack { result_number result ≡ lack_of_more s.now }
 {
     if n == 0 {
-        return refusal::UNITS_EXHAUSTED;
+        return Err(Refusal::UnitsExhausted);
     }
     let rows: DataRows = Rows { words: s, units: n };
-    lack_of(rows.units_held() + 1, n)
+    enough(rows.units_held() + 1, n)
 }
 
 // A write in a row of its own, unless units lack.
@@ -106,39 +107,43 @@ pub fn write_in(
     incarnation: u32,
     t: &[u32],
     at: usize,
-) -> u32
+) -> Result<(), Refusal>
     requires valid { data_valid s.old ≡ true }
     requires gone { Gone s.old key place row.page row.cell }
     requires inside { at + value_width ≤ length t.now }
-    ensures put { PutIn s.old key place row.page row.cell (rule.done (rule.write incarnation (value_at at t.now))) result s.new }
+    ensures put { PutIn s.old key place row.page row.cell (rule.done (rule.write incarnation (value_at at t.now))) (result_number result) s.new }
 {
     let n = units(s);
-    let lack = lack_of_more(s, n);
-    if lack != 0 {
-        return lack;
+    let enough = enough_for_more(s, n);
+    if !enough.is_ok() {
+        return enough;
     }
     let b = insert::<WIDTH, PARTS>(s, n, row, place, key, layout::WRITE);
     put_value(s, b, incarnation, t, at);
-    0
+    Ok(())
 }
 
 // A delta in a row of its own, unless units lack.
-pub fn delta_in(s: &mut [u32], key: u32, place: u32, row: Place, t: &[u32], at: usize) -> u32
+pub fn delta_in(
+    s: &mut [u32],
+    key: u32,
+    place: u32,
+    row: Place,
+    t: &[u32],
+    at: usize,
+) -> Result<(), Refusal>
     requires valid { data_valid s.old ≡ true }
     requires gone { Gone s.old key place row.page row.cell }
     requires inside { at + delta_width ≤ length t.now }
     requires delta { delta_here t.now at ≡ true }
-    ensures put { PutIn s.old key place row.page row.cell (delta_entry t.now at) result s.new }
+    ensures put { PutIn s.old key place row.page row.cell (delta_entry t.now at) (result_number result) s.new }
 {
     let n = units(s);
-    let lacking = lack_of_more(s, n);
-    if lacking != 0 {
-        return lacking;
-    }
+    enough_for_more(s, n)?;
     let m = delta_marks(t, at);
     let b = insert::<WIDTH, PARTS>(s, n, row, place, key, m);
     put_words(s, b, t, at, layout::SHORTCUT);
-    0
+    Ok(())
 }
 
 // A write put where its entry was looked for. Only an insertion counts the units held.
@@ -150,16 +155,16 @@ pub fn put_write(
     incarnation: u32,
     t: &[u32],
     at: usize,
-) -> u32
+) -> Result<(), Refusal>
     requires valid { data_valid s.old ≡ true }
     requires found { FoundIn s.old key place found }
     requires inside { at + value_width ≤ length t.now }
-    ensures put { Put s.old key place found (rule.done (rule.write incarnation (value_at at t.now))) result s.new }
+    ensures put { Put s.old key place found (rule.done (rule.write incarnation (value_at at t.now))) (result_number result) s.new }
 {
     match found {
         Ok(row) => {
             write_over(s, row, incarnation, t, at);
-            0
+            Ok(())
         }
         Err(row) => write_in(s, key, place, row, incarnation, t, at),
     }
@@ -173,17 +178,17 @@ pub fn put_delta(
     place: u32,
     t: &[u32],
     at: usize,
-) -> u32
+) -> Result<(), Refusal>
     requires valid { data_valid s.old ≡ true }
     requires found { FoundIn s.old key place found }
     requires inside { at + delta_width ≤ length t.now }
     requires delta { delta_here t.now at ≡ true }
-    ensures put { Put s.old key place found (delta_entry t.now at) result s.new }
+    ensures put { Put s.old key place found (delta_entry t.now at) (result_number result) s.new }
 {
     match found {
         Ok(row) => {
             delta_over(s, row, t, at);
-            0
+            Ok(())
         }
         Err(row) => delta_in(s, key, place, row, t, at),
     }

@@ -1,8 +1,8 @@
--- `versioned_data::put::lack_of_more` meets its contract.
+-- `versioned_data::put::enough_for_more` meets its contract.
 -- Assumes nothing.
 use native.Mathlib.Omega.{arith}
 use Rattle.versioned_data.proofs.RowInserts.{more_none, more_valid, more_is}
-use Rattle.versioned_data.proofs.put.lack_of_more.Goals as goal
+use Rattle.versioned_data.proofs.put.enough_for_more.Goals as goal
 
 pub returns-then-n-eq0 : goal.returns-then-n-eq0
 returns-then-n-eq0 c =
@@ -17,4 +17,4 @@ overflow_add-units_held c =
 
 pub returns : goal.returns
 returns c =
-    record { lack = more_is _ c.requires.valid _ c.requires.units c.if-n-eq0.false _ c.units_held.ensures.held _ c.lack_of.ensures.lack }
+    record { lack = more_is _ c.requires.valid _ c.requires.units c.if-n-eq0.false _ c.units_held.ensures.held _ c.enough.ensures.lack }
