@@ -136,12 +136,12 @@ module _ (k p i : ℕ) (t : List ℕ) where
       ∙ write_rest ts from at [] s refl h l
 
   -- the loop's end
-  pub members_built : (low high j from : ℕ) (s : List ℕ) (f : ℕ) → f ≡ get_or (tags_of low high) 0 most_tags → most_tags ≤ f → (ts : List ℕ) (at i₀ : ℕ) (s₀ : List ℕ) →
+  pub members_built : (low high j from : ℕ) (s : List ℕ) → tags_of low high ≡ [] → (ts : List ℕ) (at i₀ : ℕ) (s₀ : List ℕ) →
       i₀ + length ts ≤ units_in (length s₀) → at + value_width * length ts ≤ length t →
       write_rest_lem k p i t j (tags_of low high) from s ≡ write_rest_lem k p i t i₀ ts at s₀ →
       s ≡ written_from i₀ (map (member_slot (row_at k p (done_update i []))) (members_of ts (drop at t))) s₀
-  members_built low high j from s f e g ts at i₀ s₀ h l inv =
-      write_end (tags_of low high) j from s (write_rest_lem k p i t i₀ ts at s₀) (first_empty low high f e g) inv
+  members_built low high j from s e ts at i₀ s₀ h l inv =
+      write_end (tags_of low high) j from s (write_rest_lem k p i t i₀ ts at s₀) e inv
       ∙ write_none ts at i₀ s₀ (omega arith) l
 
   -- an update's slots: its own, then its members'

@@ -10,11 +10,11 @@ use Rattle.model.specs.Group.{all_agree, members_in}
 use Rattle.group_slots.specs.Layout.{groups_in}
 use Rattle.versioned_group_data.proofs.base.all_agree.Given as goal
 
-abbrev pub invariant-loop-rest : goal.invariant-loop-rest
-invariant-loop-rest l =
+abbrev pub invariant-loop-tag : goal.invariant-loop-tag
+invariant-loop-tag l =
     (all_agree (members_of (tags_of l.rest.low l.rest.high) (drop l.from l.t)) (members_in (find l.key 0 (groups_in l.s).updates))
     ≡ all_agree (members_of (tags_of l.initial.rest.low l.initial.rest.high) (drop l.initial.from l.t)) (members_in (find l.key 0 (groups_in l.s).updates)))
     × (l.from + value_width * length (tags_of l.rest.low l.rest.high) ≤ length l.t)
 
-abbrev pub decreases-loop-rest : goal.decreases-loop-rest
-decreases-loop-rest l = length (tags_of l.rest.low l.rest.high)
+abbrev pub decreases-loop-tag : goal.decreases-loop-tag
+decreases-loop-tag l = length (tags_of l.rest.low l.rest.high)

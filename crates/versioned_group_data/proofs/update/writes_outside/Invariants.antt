@@ -10,10 +10,10 @@ use Rattle.model.specs.Group.{outside, members_in}
 use Rattle.group_slots.specs.Layout.{groups_in}
 use Rattle.versioned_group_data.proofs.update.writes_outside.Given as goal
 
-abbrev pub invariant-loop-place : goal.invariant-loop-place
-invariant-loop-place l =
+abbrev pub invariant-loop-tag : goal.invariant-loop-tag
+invariant-loop-tag l =
     outside (members_of (tags_of l.rest.low l.rest.high) []) (members_in (find l.key (word_of l.place) (groups_in l.s).updates))
     ≡ outside (members_of (tags_of l.initial.rest.low l.initial.rest.high) []) (members_in (find l.key (word_of l.place) (groups_in l.s).updates))
 
-abbrev pub decreases-loop-place : goal.decreases-loop-place
-decreases-loop-place l = length (tags_of l.rest.low l.rest.high)
+abbrev pub decreases-loop-tag : goal.decreases-loop-tag
+decreases-loop-tag l = length (tags_of l.rest.low l.rest.high)
