@@ -50,7 +50,8 @@ const VALUES: Tail = Tail::BySet(VALUE);
 // An index to which nothing is added can be any word.
 pub const LARGEST: u32 = 4294967295;
 
-const TABLE: [Cells; 16] = [
+// A static stands in memory once; a constant is built anew at each look.
+static TABLE: [Cells; 16] = [
     // 0: last committed
     Cells(1, Tail::Alone, 0, None, 0),
     // 1 to 7: base, write, delta, estimate, remove, fetch, materialize
