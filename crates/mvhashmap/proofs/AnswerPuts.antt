@@ -7,7 +7,7 @@ use native.Mathlib.Nat.{zero-add}
 use native.Mathlib.Omega.{arith}
 use lib.ListN.{length, set}
 use lib.Seq.{sets, sets-eq}
-use borrow.Author.Tests.{eq-eqb, ne_eqb}
+use borrow.Author.Tests.{ne_eqb}
 use Rattle.types.specs.Value.{value_width}
 use Rattle.types.specs.Response.{head_of, response, answer_number, done_kind, versioned_kind, versioned_at_base_kind, answer_width}
 use Rattle.types.specs.Index.{index_of}
@@ -15,7 +15,13 @@ use Rattle.types.specs.ValueWithLayout.{words_of}
 use Rattle.std.specs.Prelude.{Result, Ok, Err}
 use Rattle.types.specs.declared.response.AnswerKind.{AnswerKind}
 use Rattle.types.specs.declared.response.AnswerKind.TheVariants.{Done, Versioned, Resolved, Unresolved, Uninitialized, TagNotFound, Dependency, DeltaApplicationFailure, Size, Committed, WroteOutside, VersionedAtBase}
-use Rattle.types.specs.Refusal.{refusal_number}
+use Rattle.number.specs.declared.Number.{Number}
+use Rattle.delta.specs.declared.DeltaOp.{DeltaOp}
+use Rattle.types.specs.Refusal.{refusal_number, result_number}
+use Rattle.versioned_data.specs.Materialize.{told_by}
+use Rattle.versioned_group_data.specs.declared.update.Written.{Written}
+use Rattle.versioned_group_data.proofs.Results.{refusal_some}
+use Rattle.mvhashmap.specs.GroupAnswer.{written_answer, written_ruling}
 use Rattle.types.specs.declared.refusal.Refusal.{Refusal}
 use Rattle.types.specs.declared.output.MVDataOutput.{MVDataOutput}
 use Rattle.types.specs.declared.output.MVGroupOutput.{MVGroupOutput}
@@ -25,7 +31,7 @@ use Rattle.types.proofs.AnswersTold.{index_told, storage_told}
 use Rattle.types.proofs.ValueLaws.{words_length}
 use Rattle.model.specs.Data.{Ruling, refuse, accept, done_answer, versioned_answer}
 use Rattle.versioned_group_data.specs.Ruled.{answer_in}
-use Rattle.mvhashmap.specs.Answer.{output_answer, output_ruling, group_output_answer, group_output_ruling, done_ruling, result_by, out_by, Put}
+use Rattle.mvhashmap.specs.Answer.{respond, materialized_answer, materialized_ruling, output_answer, output_ruling, group_output_answer, group_output_ruling, done_ruling, result_by, out_by, Put}
 
 pub sets_answer_in : (answer out : List ℕ) → length answer ≤ length out → sets out 0 answer ≡ answer_in answer out
 unfolding answer_in
@@ -69,15 +75,15 @@ module _ {T : Type 0} (f : T → Ruling Unit) (o p : T) (e : o ≡ p) (out : Lis
   unfolding result_by out_by
   put_refused n h = rw (e, h) (record { result = refl; words = refl })
 
--- The number that an operation gave.
-module _ (r : ℕ) (out : List ℕ) where
-  pub done_put : (after : List ℕ) → r ≡ 0 → after ≡ answer_in (response done_kind []) out → Put (done_ruling r) out r after
+-- What an operation came to.
+module _ {A : Type 0} (r : Result A Refusal) (out : List ℕ) where
+  pub done_put : (a : A) → r ≡ Ok a → (after : List ℕ) → after ≡ answer_in (response done_kind []) out → Put (done_ruling (result_number r)) out 0 after
   unfolding done_ruling result_by out_by done_answer
-  done_put after e w = rw (eq-eqb r 0 e) (record { result = e; words = w })
+  done_put a e after w = rw e (record { result = refl; words = w })
 
-  pub done_refused : (r ≡ 0 → ⊥) → Put (done_ruling r) out r out
+  pub done_refused : (refusal : Refusal) → r ≡ Err refusal → Put (done_ruling (result_number r)) out (refusal_number refusal) out
   unfolding done_ruling result_by out_by
-  done_refused n = rw (ne_eqb r 0 n) (record { result = refl; words = refl })
+  done_refused refusal e = rw (e, ne_eqb (refusal_number refusal) 0 (refusal_some refusal)) (record { result = refl; words = refl })
 
 -- "1 Versioned (index, incarnation, value); 11 Versioned at the base (value)"
 module _ (at incarnation : ℕ) (v : ValueWithLayout) (out first after : List ℕ) (room : answer_width ≤ length out) (i : Result ℕ StorageVersion) (e : i ≡ index_of at) where
@@ -105,6 +111,33 @@ module _ (x : Result MVDataOutput Refusal) (out : List ℕ) where
   unfolding output_ruling
   data_put o e after w = put_accepted output_ruling x (Ok o) e out (output_answer o) after refl w
 
-  pub data_refused : (refusal : Refusal) → x ≡ Err refusal → (n : ℕ) → n ≡ refusal_number refusal → Put (output_ruling x) out n out
+  pub data_refused : (refusal : Refusal) → x ≡ Err refusal → Put (output_ruling x) out (refusal_number refusal) out
   unfolding output_ruling
-  data_refused refusal e n k = put_refused output_ruling x (Err refusal) e out n (ap refuse (sym k))
+  data_refused refusal e = put_refused output_ruling x (Err refusal) e out (refusal_number refusal) refl
+
+-- And of a delta that was materialised.
+module _ (x : Result (Result Number DeltaOp) Refusal) (out : List ℕ) where
+  pub materialized_put : (m : Result Number DeltaOp) → x ≡ Ok m → (after : List ℕ) → after ≡ answer_in (materialized_answer m) out →
+      Put (materialized_ruling (told_by x)) out 0 after
+  unfolding materialized_ruling materialized_answer respond
+  materialized_put (Ok n) e after w = put_accepted (λ y. materialized_ruling (told_by y)) x (Ok (Ok n)) e out (materialized_answer (Ok n)) after refl w
+  materialized_put (Err op) e after w = put_accepted (λ y. materialized_ruling (told_by y)) x (Ok (Err op)) e out (materialized_answer (Err op)) after refl w
+
+  pub materialized_refused : (refusal : Refusal) → x ≡ Err refusal → Put (materialized_ruling (told_by x)) out (refusal_number refusal) out
+  unfolding materialized_ruling
+  materialized_refused refusal e = put_refused (λ y. materialized_ruling (told_by y)) x (Err refusal) e out (refusal_number refusal) refl
+
+-- And of a group write.
+module _ (x : Result Written Refusal) (out : List ℕ) where
+  pub written_put : (w : Written) → x ≡ Ok w → (after : List ℕ) → after ≡ answer_in (written_answer w) out → Put (written_ruling x) out 0 after
+  unfolding written_ruling
+  written_put w e after h = put_accepted written_ruling x (Ok w) e out (written_answer w) after refl h
+
+  pub written_refused : (refusal : Refusal) → x ≡ Err refusal → Put (written_ruling x) out (refusal_number refusal) out
+  unfolding written_ruling
+  written_refused refusal e = put_refused written_ruling x (Err refusal) e out (refusal_number refusal) refl
+
+-- What cannot be refused is done.
+pub done_always : (out after : List ℕ) → after ≡ answer_in (response done_kind []) out → Put (done_ruling 0) out 0 after
+unfolding done_ruling result_by out_by done_answer
+done_always out after w = record { result = refl; words = w }

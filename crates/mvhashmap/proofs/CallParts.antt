@@ -19,11 +19,11 @@ use Rattle.request.specs.Checked.{check_of}
 use Rattle.request.specs.declared.asked.Fields.{Fields}
 use Rattle.std.specs.Prelude.{Result, Ok, Err}
 use Rattle.types.specs.declared.refusal.Refusal.{Refusal}
-use Rattle.types.specs.declared.refusal.Refusal.TheVariants.{AnswerTooShort, WrongCount, BadField, IndexTooHigh, DamagedStore, NothingThere, IncarnationNotHigher, BaseDiffers, LayoutUnderDelta, NoNumberUnderDelta, CommitRule, NothingToExchange, NotMaterializable, UnitsExhausted}
 use Rattle.request.specs.declared.kind.Kind.{Kind}
 use Rattle.request.specs.declared.kind.Kind.TheVariants.{LastCommitted, Base, Write, AddDelta, Estimate, Remove, Fetch, Materialize, GroupBase, Exchange, GroupWrite, GroupEstimate, GroupRemove, GroupFetch, GroupSize, Finalize}
 use mathlib.Core.Logic.{◌⊎◌, inl, inr}
 use Rattle.request.specs.Table.{number_of, kind_of}
+use Rattle.versioned_group_data.proofs.Results.{refusal_some}
 use Rattle.request.proofs.KindNumbers.{number_back}
 use Rattle.request.proofs.Shapes.{shape_empty}
 use Rattle.request.proofs.CheckAnswers.{accepted_passed, refused_told}
@@ -49,22 +49,6 @@ asked_data t o w room k e x p a z =
 -- What the whole check that did not refuse has told.
 pub passed_told : (t : List ℕ) (x : Result Fields Refusal) → x ≡ check_of t → (f : Fields) → x ≡ Ok f → refusal_of t ≡ 0
 passed_told t x e f h = (accepted_passed t f (sym e ∙ h)).refusal
-
-pub number_nonzero : (r : Refusal) → refusal_number r ≡ 0 → ⊥
-number_nonzero AnswerTooShort e = omega (arith, e)
-number_nonzero WrongCount e = omega (arith, e)
-number_nonzero BadField e = omega (arith, e)
-number_nonzero IndexTooHigh e = omega (arith, e)
-number_nonzero DamagedStore e = omega (arith, e)
-number_nonzero NothingThere e = omega (arith, e)
-number_nonzero IncarnationNotHigher e = omega (arith, e)
-number_nonzero BaseDiffers e = omega (arith, e)
-number_nonzero LayoutUnderDelta e = omega (arith, e)
-number_nonzero NoNumberUnderDelta e = omega (arith, e)
-number_nonzero CommitRule e = omega (arith, e)
-number_nonzero NothingToExchange e = omega (arith, e)
-number_nonzero NotMaterializable e = omega (arith, e)
-number_nonzero UnitsExhausted e = omega (arith, e)
 
 -- What a scan that did not refuse has told.
 pub valid_told : (b v : Bool) → b ≡ v → not b ≡ false → v ≡ true
@@ -134,16 +118,18 @@ module _ (t : List ℕ) (l : Lent) where
     calls_refusal zero e h = absurd (h refl)
     calls_refusal (suc n) e h = calls_number (suc n) (refused_by_request t (view_of l) room n (sym e))
 
+    pub data_refused : {A : Type 0} (x : Result A Refusal) → result_number x ≡ refusal_of t → (refusal : Refusal) → x ≡ Err refusal → Calls t l (refusal_number refusal) l
+    data_refused x p refusal e = calls_refusal (refusal_number refusal) (sym (ap result_number e) ∙ p) (refusal_some refusal)
+
     pub calls_empty : length t ≡ 0 → Calls t l wrong_count l
     unfolding refusal_of
     calls_empty h = calls_refusal wrong_count (rw (sym (shape_empty t (omega arith))) refl) (λ e. omega arith)
 
     -- and by the whole check
     module _ (x : Result Fields Refusal) (checked : x ≡ check_of t) where
-      pub calls_refused : (refusal : Refusal) → x ≡ Err refusal → (n : ℕ) → n ≡ refusal_number refusal → Calls t l n l
-      calls_refused refusal e n k =
-          let number : n ≡ refusal_of t = k ∙ refused_told t refusal (sym checked ∙ e) in
-          calls_refusal n number (λ z. number_nonzero refusal (sym k ∙ z))
+      pub calls_refused : (refusal : Refusal) → x ≡ Err refusal → Calls t l (refusal_number refusal) l
+      calls_refused refusal e =
+          calls_refusal (refusal_number refusal) (refused_told t refusal (sym checked ∙ e)) (refusal_some refusal)
 
     module _ (z : refusal_of t ≡ 0) where
       -- "5: range, pair or partner rule broken"
@@ -176,8 +162,8 @@ module _ (t d g o : List ℕ) (k : ℕ) (a : DataAsked t k o) (v : sound (stores
   calls_data s = calls_served t (lent d g o) a.room a.passed v r (lent after g o-after) (s.served g (group_valid_lem (stores d g) v))
 
 module _ (t g o : List ℕ) (v : group_valid g ≡ true) where
-  pub group_refused : answer_width ≤ length o → (x : Result Fields Refusal) → x ≡ check_of t → (refusal : Refusal) → x ≡ Err refusal → (n : ℕ) → n ≡ refusal_number refusal → CallsGroup t g o n g o
-  group_refused room x e refusal h n k = record { called = λ d u. calls_refused t (lent d g o) room x e refusal h n k }
+  pub group_refused : answer_width ≤ length o → (x : Result Fields Refusal) → x ≡ check_of t → (refusal : Refusal) → x ≡ Err refusal → CallsGroup t g o (refusal_number refusal) g o
+  group_refused room x e refusal h = record { called = λ d u. calls_refused t (lent d g o) room x e refusal h }
 
   pub group_served : (f : Fields) → Asked t f o → (r : ℕ) (after o-after : List ℕ) → ServesGroup t g o r after o-after → CallsGroup t g o r after o-after
   group_served f a r after o-after s =

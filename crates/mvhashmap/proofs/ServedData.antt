@@ -27,8 +27,9 @@ use Rattle.model.proofs.FineEntries.{fine_down_from}
 use Rattle.versioned_data.specs.Layout.{entries_in, data_valid}
 use Rattle.versioned_data.specs.Output.{output_of}
 use Rattle.versioned_data.specs.Edited.{Edited}
-use Rattle.versioned_data.specs.Materialize.{Materializes}
-use Rattle.versioned_data.specs.declared.materialize.Materialized.{Materialized}
+use Rattle.versioned_data.specs.Materialize.{told_by, Materializes}
+use Rattle.number.specs.declared.Number.{Number}
+use Rattle.delta.specs.declared.DeltaOp.{DeltaOp}
 use Rattle.versioned_data.proofs.EntriesHeld as Entries
 use Rattle.mvhashmap.specs.Answer.{done_ruling, output_answer, output_ruling, materialized_ruling, result_by, out_by, Put}
 use Rattle.mvhashmap.specs.Served.{ServesData, FetchedIf, DataAsked}
@@ -64,9 +65,9 @@ module _ (t d o : List ℕ) (r : ℕ) (out : List ℕ) (v : data_valid d ≡ tru
         (versioned_is (shifted_of place) (get_or d content 0) (value_from (value_at (content + 1) d)) (value_at (content + 1) d) refl ∙ ap output_of (sym h.read))
         (record { result = z; words = g })
 
-    pub serves_materialize : Asks t (edit_data key (suc index) (suc index) materialize_delta) → (x : Materialized) (after : List ℕ) →
+    pub serves_materialize : Asks t (edit_data key (suc index) (suc index) materialize_delta) → (x : Result (Result Number DeltaOp) Refusal) (after : List ℕ) →
         Materializes d key (suc index) (λ own. materialize_delta own (down_from key (suc index) (entries_in d))) (read_of (down_from key (suc index) (entries_in d))) x after →
-        Put (materialized_ruling x) o r out → ServesData t d o r after out
+        Put (materialized_ruling (told_by x)) o r out → ServesData t d o r after out
     unfolding materialize_delta
     serves_materialize a x after p q =
         edits_data t o r out d key (suc index) (suc index) materialize_delta after a

@@ -5,6 +5,7 @@ use mathlib.Core.Bool.{Bool, true, false, cond}
 use mathlib.Core.List.{List, []}
 use mathlib.Core.Option.{Option}
 use Prim.Native.Nat.{ℕ, zero, suc}
+use native.Mathlib.Omega.{arith}
 use lib.Dec.{eqb, eqb-suc-zero}
 use lib.ListN.{length}
 use Rattle.lists.specs.Lists.{every}
@@ -27,12 +28,14 @@ use Rattle.versioned_group_data.specs.Left.{LeftIf, LeftBy}
 use Rattle.versioned_group_data.specs.Output.{latest_output, size_output}
 use Rattle.versioned_group_data.specs.Written.{written_of, Writes}
 use Rattle.versioned_group_data.specs.declared.update.Written.{Written}
-use Rattle.versioned_group_data.specs.declared.update.Written.TheVariants.{Done, Outside}
+use Rattle.std.specs.Prelude.{Result, Ok, Err, IfOk}
+use Rattle.types.specs.Refusal.{refusal_number, result_number}
+use Rattle.types.specs.declared.refusal.Refusal.{Refusal}
+use Rattle.versioned_group_data.proofs.Results.{refusal_some}
 use Rattle.group_slots.proofs.GroupHolding.{every_valid, few_valid}
-use Rattle.mvhashmap.specs.Answer.{respond, done_ruling, group_output_ruling, result_by, out_by, Put}
-use Rattle.mvhashmap.specs.GroupAnswer.{written_ruling}
+use Rattle.mvhashmap.specs.Answer.{done_ruling, group_output_ruling, result_by, out_by, Put}
+use Rattle.mvhashmap.specs.GroupAnswer.{written_answer, written_ruling}
 use Rattle.mvhashmap.specs.Served.{ServesGroup}
-use Rattle.mvhashmap.proofs.AnswerPuts.{put_accepted}
 use Rattle.mvhashmap.proofs.AnswerOutputs.{latest_kept, size_kept}
 use Rattle.mvhashmap.proofs.AskedData.{Asks}
 use Rattle.mvhashmap.proofs.StoresLeft.{group_left, committed_left}
@@ -49,27 +52,33 @@ group_out g o (accept answer x) = go (lack_in g x)
     go (suc n) = rw (eqb-suc-zero n) refl
 
 -- What a write answers is what its rule tells.
-written_told : (g : List ℕ) (key place incarnation : ℕ) (ms : List Member) →
-    written_ruling
-    (written_of (result_of g (editing (groups_in g) key place (write_group incarnation ms))) (outside ms (members_in (find key place (groups_in g).updates))))
-    ≡ told (lack_in g) (editing (groups_in g) key place (write_group incarnation ms))
-unfolding editing write_group ruled told result_of written_ruling written_of respond told_of
-written_told g key place incarnation ms = go (lack_in g _) (outside ms (members_in (find key place (groups_in g).updates)))
-  where
-    go : (n : ℕ) (out : Bool) → written_ruling (written_of n out) ≡ told_of n (cond out (response wrote_outside_kind []) done_answer)
-    go zero true = refl
-    go zero false = refl
-    go (suc n) out = rw (eqb-suc-zero n) refl
+module _ (g : List ℕ) (key place incarnation : ℕ) (ms : List Member) where
+  abbrev wrote : Ruling Groups
+  wrote = editing (groups_in g) key place (write_group incarnation ms)
 
--- What a write's answer puts.
-module _ (w : Written) (o : List ℕ) where
-  pub done_written : (r : ℕ) (out : List ℕ) → w ≡ Done → Put (done_ruling 0) o r out → Put (written_ruling w) o r out
-  unfolding done_ruling written_ruling
-  done_written r out e p = rw e p
+  abbrev past : Bool
+  past = outside ms (members_in (find key place (groups_in g).updates))
 
-  pub outside_written : (out : List ℕ) → w ≡ Outside → out ≡ answer_in (response wrote_outside_kind []) o → Put (written_ruling w) o 0 out
-  unfolding written_ruling respond
-  outside_written out e h = put_accepted written_ruling w Outside e o (response wrote_outside_kind []) out refl h
+  wrote_as : (w : Written) → w ≡ written_of past → result_of g wrote ≡ 0 → written_ruling (Ok w) ≡ told (lack_in g) wrote
+  unfolding editing write_group ruled told result_of written_ruling written_answer written_of told_of
+  wrote_as w e z = rw e (go (lack_in g _) past z)
+    where
+      go : (n : ℕ) (out : Bool) → n ≡ 0 → accept (written_answer (written_of out)) tt ≡ told_of n (cond out (response wrote_outside_kind []) done_answer)
+      go zero true h = refl
+      go zero false h = refl
+      go (suc n) out h = absurd (omega arith)
+
+  refused_as : (refusal : Refusal) → refusal_number refusal ≡ result_of g wrote → written_ruling (Err refusal) ≡ told (lack_in g) wrote
+  unfolding editing write_group ruled told result_of written_ruling told_of
+  refused_as refusal z = go (lack_in g _) z
+    where
+      go : (n : ℕ) → refusal_number refusal ≡ n → refuse (refusal_number refusal) ≡ told_of n (cond past (response wrote_outside_kind []) done_answer)
+      go zero h = absurd (refusal_some refusal h)
+      go (suc n) h = rw h refl
+
+  written_told : (x : Result Written Refusal) → result_number x ≡ result_of g wrote → IfOk x (λ w. w ≡ written_of past) → written_ruling x ≡ told (lack_in g) wrote
+  written_told (Ok w) z e = wrote_as w e (sym z)
+  written_told (Err refusal) z e = refused_as refusal z
 
 -- What is answered is what the rule tells.
 answered_told : (g o : List ℕ) (R : Ruling Groups) (r : ℕ) (after out : List ℕ) → Answered g o R r after out → Put (told (lack_in g) R) o r out
@@ -103,10 +112,10 @@ module _ (t g o : List ℕ) (r : ℕ) (out : List ℕ) (v : group_valid g ≡ tr
           (h (find key place (groups_in g).updates) (groups_in g).committed)
 
   pub serves_group_write : (key place incarnation : ℕ) (ms : List Member) → Asks t (edit_group key place (write_group incarnation ms)) →
-      (x : Written) (after : List ℕ) → Writes g key place incarnation ms x after → Put (written_ruling x) o r out → ServesGroup t g o r after out
+      (x : Result Written Refusal) (after : List ℕ) → Writes g key place incarnation ms x after → Put (written_ruling x) o r out → ServesGroup t g o r after out
   serves_group_write key place incarnation ms a x after p q =
       edits_group t o r out g key place (write_group incarnation ms) after a
-      (rw (ap written_ruling p.answer ∙ written_told g key place incarnation ms) at q)
+      (rw (written_told g key place incarnation ms x p.result p.answer) at q)
       (group_left g v t key place (write_group incarnation ms) a after p.words)
 
   module _ (key index : ℕ) where

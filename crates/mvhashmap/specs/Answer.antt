@@ -1,7 +1,9 @@
 -- The number or the words that 01 gives to each case of the code's answers, and what becomes of the answer slice.
 use Rattle.std.specs.Prelude.{◌≡◌, cond, List, [], ◌∷◌, ℕ, eqb, Result, Ok, Err}
+use Rattle.number.specs.declared.Number.{Number}
 use Rattle.number.specs.Number.{value_of}
 use Rattle.number.specs.Words.{digits}
+use Rattle.delta.specs.declared.DeltaOp.{DeltaOp}
 use Rattle.delta.specs.Delta.{delta_words}
 use Rattle.delta.specs.Op.{exact}
 use Rattle.types.specs.Index.{word_of}
@@ -14,8 +16,7 @@ use Rattle.types.specs.declared.output.MVDataOutput.TheVariants as Data
 use Rattle.types.specs.declared.output.MVGroupOutput.{MVGroupOutput}
 use Rattle.types.specs.declared.output.MVGroupOutput.TheVariants as Group
 use Rattle.model.specs.Data.{Ruling, refuse, accept, done_answer, versioned_answer}
-use Rattle.versioned_data.specs.declared.materialize.Materialized.{Materialized}
-use Rattle.versioned_data.specs.declared.materialize.Materialized.TheVariants.{Refused, Resolved, Unresolved}
+use Rattle.versioned_data.specs.Materialize.{Materialized, Refused, Resolved, Unresolved}
 use Rattle.versioned_group_data.specs.Ruled.{answer_in}
 
 -- A response, which leaves the stores as they are.
@@ -34,6 +35,11 @@ output_answer Data.DeltaApplicationFailure = response application_failure_kind [
 unfoldable pub output_ruling : Result MVDataOutput Refusal → Ruling Unit
 output_ruling (Ok o) = accept (output_answer o) tt
 output_ruling (Err refusal) = refuse (refusal_number refusal)
+
+-- What a delta that was materialised answers, and how that rules.
+unfoldable pub materialized_answer : Result Number DeltaOp → List ℕ
+materialized_answer (Ok n) = response resolved_kind (digits 4 (value_of n))
+materialized_answer (Err op) = response unresolved_kind (delta_words (exact op))
 
 unfoldable pub materialized_ruling : Materialized → Ruling Unit
 materialized_ruling (Refused n) = refuse n

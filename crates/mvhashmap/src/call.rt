@@ -1,6 +1,7 @@
 // The call: the refusals 1 to 5, lowest first, and the store that does the work.
 ghost use Rattle.std.specs.Prelude.{◌≡◌, true, false, ◌≤◌, ◌<◌, length};
 ghost use Rattle.types.specs.Response.{answer_width};
+ghost use Rattle.types.specs.Refusal.{result_number};
 ghost use Rattle.request.specs.Table.{number_of};
 ghost use Rattle.request.specs.Fields.{kind_at};
 ghost use Rattle.group_slots.specs.Layout.{group_valid};
@@ -12,7 +13,7 @@ use crate::group::group_call;
 use group_slots::scan as group_scan;
 use request::data::data_refusal;
 use request::kind::Kind;
-use types::refusal;
+use types::refusal::Refusal;
 use types::response::{ANSWER_WIDTH, kind_in};
 use versioned_data::scan as data_scan;
 
@@ -39,57 +40,54 @@ fn is_data(kind: Kind) -> bool
 }
 
 // A request for the group store.
-fn group_request(t: &[u32], group: &mut [u32], out: &mut [u32]) -> u32
+fn group_request(t: &[u32], group: &mut [u32], out: &mut [u32]) -> Result<(), Refusal>
     requires valid { group_valid group.old ≡ true }
     requires room { answer_width ≤ length out.old }
     requires kind { is_data (kind_at t.now) ≡ false }
-    ensures called { CallsGroup t.now group.old out.old result group.new out.new }
+    ensures called { CallsGroup t.now group.old out.old (result_number result) group.new out.new }
 {
-    match request::check(t) {
-        Err(refusal) => refusal.number(),
-        Ok(f) => group_call(f, t, group, out),
-    }
+    let f = request::check(t)?;
+    group_call(f, t, group, out)
 }
 
 // A call by a caller who knows that the stores are sound.
-pub fn inner_call(t: &[u32], data: &mut [u32], group: &mut [u32], out: &mut [u32]) -> u32
+pub fn inner_call(
+    t: &[u32],
+    data: &mut [u32],
+    group: &mut [u32],
+    out: &mut [u32],
+) -> Result<(), Refusal>
     requires sound { sound (stores «data».old group.old) ≡ true }
-    ensures called { Calls t.now (lent «data».old group.old out.old) result (lent «data».new group.new out.new) }
+    ensures called { Calls t.now (lent «data».old group.old out.old) (result_number result) (lent «data».new group.new out.new) }
 {
     if out.len() < ANSWER_WIDTH {
-        return refusal::ANSWER_TOO_SHORT;
+        return Err(Refusal::AnswerTooShort);
     }
     if t.is_empty() {
-        return refusal::WRONG_COUNT;
+        return Err(Refusal::WrongCount);
     }
     let kind = kind_of(t);
     if !is_data(kind) {
         return group_request(&t[0..], &mut group[0..], &mut out[0..]);
     }
-    match data_refusal(t, kind) {
-        Err(refusal) => refusal.number(),
-        Ok(()) => data_call(kind, t, data, out),
-    }
+    data_refusal(t, kind)?;
+    data_call(kind, t, data, out)
 }
 
 // A call over any words.
-pub fn call(t: &[u32], data: &mut [u32], group: &mut [u32], out: &mut [u32]) -> u32
-    ensures called { Calls t.now (lent «data».old group.old out.old) result (lent «data».new group.new out.new) }
+pub fn call(t: &[u32], data: &mut [u32], group: &mut [u32], out: &mut [u32]) -> Result<(), Refusal>
+    ensures called { Calls t.now (lent «data».old group.old out.old) (result_number result) (lent «data».new group.new out.new) }
 {
     if out.len() < ANSWER_WIDTH {
-        return refusal::ANSWER_TOO_SHORT;
+        return Err(Refusal::AnswerTooShort);
     }
-    match request::check(t) {
-        Err(refusal) => refusal.number(),
-        Ok(_) => {
-            if !data_scan::is_valid(data) {
-                return refusal::DAMAGED_STORE;
-            }
-            if !group_scan::is_valid(group) {
-                return refusal::DAMAGED_STORE;
-            }
-            // The request is checked again: the scans take a hundred times as long.
-            inner_call(t, data, group, out)
-        }
+    request::check(t)?;
+    if !data_scan::is_valid(data) {
+        return Err(Refusal::DamagedStore);
     }
+    if !group_scan::is_valid(group) {
+        return Err(Refusal::DamagedStore);
+    }
+    // The request is checked again: the scans take a hundred times as long.
+    inner_call(t, data, group, out)
 }

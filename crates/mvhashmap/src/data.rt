@@ -1,11 +1,13 @@
 // The kinds that go to the data store, 1 to 7. The fields are read where they stand in the request: a struct of them goes through memory.
 ghost use Rattle.std.specs.Prelude.{◌≡◌, true, ◌≤◌};
+ghost use Rattle.types.specs.Refusal.{result_number};
 ghost use Rattle.request.specs.Table.{number_of};
 ghost use Rattle.versioned_data.specs.Layout.{data_valid};
 ghost use Rattle.mvhashmap.specs.Served.{DataAsked, ServesData, FetchedIf};
 
 use crate::answer::{done, put_data_output, put_materialized, put_write};
 use request::kind::Kind;
+use types::refusal::Refusal;
 use versioned_data::{edit, fetch, materialize};
 
 // The places of the fields: single words, the values of a base and of a write, and a delta.
@@ -21,46 +23,46 @@ const WRITE_VALUE: usize = 4;
 
 const DELTA: usize = 3;
 
-fn set_base_value(t: &[u32], s: &mut [u32], out: &mut [u32]) -> u32
+fn set_base_value(t: &[u32], s: &mut [u32], out: &mut [u32]) -> Result<(), Refusal>
     requires valid { data_valid s.old ≡ true }
     requires asked { DataAsked t.now 1 out.old }
-    ensures served { ServesData t.now s.old out.old result s.new out.new }
+    ensures served { ServesData t.now s.old out.old (result_number result) s.new out.new }
 {
     let n = edit::set_base_value(s, t[KEY], t, BASE_VALUE);
     done(out, n)
 }
 
-fn write(t: &[u32], s: &mut [u32], out: &mut [u32]) -> u32
+fn write(t: &[u32], s: &mut [u32], out: &mut [u32]) -> Result<(), Refusal>
     requires valid { data_valid s.old ≡ true }
     requires asked { DataAsked t.now 2 out.old }
-    ensures served { ServesData t.now s.old out.old result s.new out.new }
+    ensures served { ServesData t.now s.old out.old (result_number result) s.new out.new }
 {
     let n = edit::write(s, t[KEY], t[INDEX], t[INCARNATION], t, WRITE_VALUE);
     done(out, n)
 }
 
-fn add_delta(t: &[u32], s: &mut [u32], out: &mut [u32]) -> u32
+fn add_delta(t: &[u32], s: &mut [u32], out: &mut [u32]) -> Result<(), Refusal>
     requires valid { data_valid s.old ≡ true }
     requires asked { DataAsked t.now 3 out.old }
-    ensures served { ServesData t.now s.old out.old result s.new out.new }
+    ensures served { ServesData t.now s.old out.old (result_number result) s.new out.new }
 {
     let n = edit::add_delta(s, t[KEY], t[INDEX], t, DELTA);
     done(out, n)
 }
 
-fn mark_estimate(t: &[u32], s: &mut [u32], out: &mut [u32]) -> u32
+fn mark_estimate(t: &[u32], s: &mut [u32], out: &mut [u32]) -> Result<(), Refusal>
     requires valid { data_valid s.old ≡ true }
     requires asked { DataAsked t.now 4 out.old }
-    ensures served { ServesData t.now s.old out.old result s.new out.new }
+    ensures served { ServesData t.now s.old out.old (result_number result) s.new out.new }
 {
     let n = edit::mark_estimate(s, t[KEY], t[INDEX]);
     done(out, n)
 }
 
-fn remove(t: &[u32], s: &mut [u32], out: &mut [u32]) -> u32
+fn remove(t: &[u32], s: &mut [u32], out: &mut [u32]) -> Result<(), Refusal>
     requires valid { data_valid s.old ≡ true }
     requires asked { DataAsked t.now 5 out.old }
-    ensures served { ServesData t.now s.old out.old result s.new out.new }
+    ensures served { ServesData t.now s.old out.old (result_number result) s.new out.new }
 {
     let n = edit::remove(s, t[KEY], t[INDEX]);
     done(out, n)
@@ -81,43 +83,40 @@ fn fetch_write(t: &[u32], s: &[u32], out: &mut [u32]) -> bool
     }
 }
 
-fn fetch_other(t: &[u32], s: &mut [u32], out: &mut [u32]) -> u32
+fn fetch_other(t: &[u32], s: &mut [u32], out: &mut [u32]) -> Result<(), Refusal>
     requires valid { data_valid s.old ≡ true }
     requires asked { DataAsked t.now 6 out.old }
-    ensures served { ServesData t.now s.old out.old result s.new out.new }
+    ensures served { ServesData t.now s.old out.old (result_number result) s.new out.new }
 {
-    match fetch::fetch_data(s, t[KEY], t[INDEX]) {
-        Ok(o) => {
-            put_data_output(out, o);
-            0
-        }
-        Err(refusal) => refusal.number(),
-    }
+    let o = fetch::fetch_data(s, t[KEY], t[INDEX])?;
+    put_data_output(out, o);
+    Ok(())
 }
 
 // Parts of the slices are handed on, so that the slices themselves stay out of memory.
-fn fetch_data(t: &[u32], s: &mut [u32], out: &mut [u32]) -> u32
+fn fetch_data(t: &[u32], s: &mut [u32], out: &mut [u32]) -> Result<(), Refusal>
     requires valid { data_valid s.old ≡ true }
     requires asked { DataAsked t.now 6 out.old }
-    ensures served { ServesData t.now s.old out.old result s.new out.new }
+    ensures served { ServesData t.now s.old out.old (result_number result) s.new out.new }
 {
     if fetch_write(t, s, out) {
-        return 0;
+        return Ok(());
     }
     fetch_other(&t[0..], &mut s[0..], &mut out[0..])
 }
 
-fn materialize_delta(t: &[u32], s: &mut [u32], out: &mut [u32]) -> u32
+fn materialize_delta(t: &[u32], s: &mut [u32], out: &mut [u32]) -> Result<(), Refusal>
     requires valid { data_valid s.old ≡ true }
     requires asked { DataAsked t.now 7 out.old }
-    ensures served { ServesData t.now s.old out.old result s.new out.new }
+    ensures served { ServesData t.now s.old out.old (result_number result) s.new out.new }
 {
-    let m = materialize::materialize_delta(s, t[KEY], t[INDEX]);
-    put_materialized(out, m)
+    let m = materialize::materialize_delta(s, t[KEY], t[INDEX])?;
+    put_materialized(out, m);
+    Ok(())
 }
 
 // The kinds that are seldom asked for.
-fn rare_call(kind: Kind, t: &[u32], s: &mut [u32], out: &mut [u32]) -> u32
+fn rare_call(kind: Kind, t: &[u32], s: &mut [u32], out: &mut [u32]) -> Result<(), Refusal>
     requires valid { data_valid s.old ≡ true }
     requires asked { DataAsked t.now (number_of kind) out.old }
     requires some { 1 ≤ number_of kind }
@@ -125,7 +124,7 @@ fn rare_call(kind: Kind, t: &[u32], s: &mut [u32], out: &mut [u32]) -> u32
     requires no_fetch { kind ≡ Kind.Fetch → ⊥ }
     requires no_write { kind ≡ Kind.Write → ⊥ }
     requires no_removal { kind ≡ Kind.Remove → ⊥ }
-    ensures served { ServesData t.now s.old out.old result s.new out.new }
+    ensures served { ServesData t.now s.old out.old (result_number result) s.new out.new }
 {
     match kind {
         Kind::Base => set_base_value(t, s, out),
@@ -136,12 +135,12 @@ fn rare_call(kind: Kind, t: &[u32], s: &mut [u32], out: &mut [u32]) -> u32
 }
 
 // Fetches, writes and removals first. The others are handed parts of the slices, so that the slices themselves stay out of memory.
-pub fn data_call(kind: Kind, t: &[u32], s: &mut [u32], out: &mut [u32]) -> u32
+pub fn data_call(kind: Kind, t: &[u32], s: &mut [u32], out: &mut [u32]) -> Result<(), Refusal>
     requires valid { data_valid s.old ≡ true }
     requires asked { DataAsked t.now (number_of kind) out.old }
     requires some { 1 ≤ number_of kind }
     requires data { number_of kind ≤ 7 }
-    ensures served { ServesData t.now s.old out.old result s.new out.new }
+    ensures served { ServesData t.now s.old out.old (result_number result) s.new out.new }
 {
     match kind {
         Kind::Fetch => fetch_data(t, s, out),

@@ -2,9 +2,21 @@
 #![tactic(auto)]
 
 ghost use Rattle.std.specs.Prelude.{◌≡◌, true};
+ghost use Rattle.types.specs.Refusal.{result_number};
 ghost use Rattle.mvhashmap.specs.Call.{stores, lent, sound, Calls};
 
 use mvhashmap::call;
+use types::refusal::Refusal;
+
+// The number of a call's result: 0, or that of its refusal.
+fn number_of(called: Result<(), Refusal>) -> u32
+    ensures number { result ≡ result_number called }
+{
+    match called {
+        Ok(()) => 0,
+        Err(refusal) => refusal.number(),
+    }
+}
 
 // A call over any words.
 #[unsafe(no_mangle)]
@@ -16,7 +28,7 @@ pub extern "C" fn mvhashmap_call(
 ) -> u32
     ensures called { Calls t.now (lent «data».old group.old out.old) result (lent «data».new group.new out.new) }
 {
-    call::call(t, data, group, out)
+    number_of(call::call(t, data, group, out))
 }
 
 // A call by a caller who knows that the stores are sound: cleared words, or what a call left of such.
@@ -30,5 +42,5 @@ pub extern "C" fn mvhashmap_inner_call(
     requires sound { sound (stores «data».old group.old) ≡ true }
     ensures called { Calls t.now (lent «data».old group.old out.old) result (lent «data».new group.new out.new) }
 {
-    call::inner_call(t, data, group, out)
+    number_of(call::inner_call(t, data, group, out))
 }

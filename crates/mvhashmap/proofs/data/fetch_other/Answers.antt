@@ -1,6 +1,7 @@
 -- `mvhashmap::data::fetch_other` meets its contract.
 -- Assumes nothing.
 use native.Mathlib.Omega.{arith}
+use Rattle.versioned_data.proofs.Passed.{passed}
 use Rattle.mvhashmap.proofs.AnswerPuts.{data_put, data_refused}
 use Rattle.mvhashmap.proofs.ServedData.{serves_fetch}
 use Rattle.mvhashmap.proofs.AskedData.{plain_inside, data_served, asks_fetch}
@@ -21,16 +22,16 @@ pub put_data_output-requires : goal.put_data_output-requires
 put_data_output-requires c =
     record { room = c.requires.asked.room }
 
-pub returns-in-Ok : goal.returns-in-Ok
-returns-in-Ok c =
+pub returns : goal.returns
+returns c =
     record {
       served = serves_fetch _ _ _ _ _ c.requires.valid _ _ (asks_fetch _ _ c.requires.asked) _ c.fetch_data.ensures.read
-          (data_put _ _ _ c.in-Ok.is _ c.put_data_output.ensures.put);
+          (data_put _ _ _ c.in_ok-o.was _ c.put_data_output.ensures.put);
     }
 
-pub returns-in-Err : goal.returns-in-Err
-returns-in-Err c =
+pub returns-in_err-o : goal.returns-in_err-o
+returns-in_err-o c =
     record {
       served = serves_fetch _ _ _ _ _ c.requires.valid _ _ (asks_fetch _ _ c.requires.asked) _ c.fetch_data.ensures.read
-          (data_refused _ _ _ c.in-Err.is _ c.number.ensures.number);
+          (rw (passed _ _ c.from_residual.ensures.1) (data_refused _ _ _ c.in_err-o.was));
     }
