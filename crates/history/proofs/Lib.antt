@@ -12,3 +12,4 @@ mod TurnPromises
 mod WholeEnds
 mod RanLaws
 mod SessionLaws
+mod RefusalNumbers

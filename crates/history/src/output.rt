@@ -1,5 +1,6 @@
 // The output: the lines that wait to be written. Digits are capitals, by a function of our own.
 ghost use Rattle.std.specs.Prelude.{◌≡◌, ◌+◌, ◌<◌, ◌≤◌, length, slice_index, take, is_err};
+ghost use Rattle.types.specs.Refusal.{result_number};
 ghost use Rattle.types.specs.Response.{count_in, answer_width};
 ghost use Rattle.history.specs.State.{longest_line};
 ghost use Rattle.history.specs.Line.{digit_of};
@@ -7,6 +8,7 @@ ghost use Rattle.history.specs.Moved.{Handed};
 
 use std::io;
 use std::io::{ErrorKind, Write};
+use types::refusal::Refusal;
 use types::response;
 use types::response::ANSWER_WIDTH;
 
@@ -123,19 +125,19 @@ impl<const N: usize> Output<N> {
     }
 
     // Puts the line of what a call shows.
-    pub fn put_line(&mut self, res: u32, answer: &[u32])
-        requires small { res < 100 }
+    pub fn put_line(&mut self, called: Result<(), Refusal>, answer: &[u32])
         requires whole { answer_width ≤ length answer.now }
-        requires few { res ≡ 0 → count_in (slice_index answer.now 0) < answer_width }
+        requires few { result_number called ≡ 0 → count_in (slice_index answer.now 0) < answer_width }
         requires room { self.old.put + longest_line ≤ N }
-        ensures puts { Puts self.old self.new (line_of (shown res answer.now)) }
+        ensures puts { Puts self.old self.new (line_of (shown (result_number called) answer.now)) }
     {
-        if res != 0 {
-            self.put_refusal(res);
-            return;
+        match called {
+            Ok(()) => {
+                let n = response::count_in(answer[0]) + 1;
+                self.put_answer(&answer[..n]);
+            }
+            Err(refusal) => self.put_refusal(refusal.number()),
         }
-        let n = response::count_in(answer[0]) + 1;
-        self.put_answer(&answer[..n]);
     }
 
     // Writes what waits.

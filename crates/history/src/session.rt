@@ -63,8 +63,8 @@ impl<const BLOCK: usize, const WORDS: usize, const STORE: usize> Session<BLOCK, 
             return;
         }
         let n = input::next(unread, &mut self.words);
-        let result = self.stores.call(&self.words[..n], &mut self.answer);
-        self.output.put_line(result, &self.answer);
+        let called = self.stores.call(&self.words[..n], &mut self.answer);
+        self.output.put_line(called, &self.answer);
         self.input.skip(4 * n);
         self.stopped = n == 0;
     }

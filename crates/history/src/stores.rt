@@ -1,9 +1,11 @@
 // The two stores that every call is lent.
 ghost use Rattle.std.specs.Prelude.{◌≡◌, ◌<◌, ◌≤◌, true, length, slice_index, replicate};
+ghost use Rattle.types.specs.Refusal.{result_number};
 ghost use Rattle.types.specs.Response.{count_in, answer_width};
 ghost use Rattle.mvhashmap.specs.Call.{stores, sound};
 
 use mvhashmap::call;
+use types::refusal::Refusal;
 
 #[derive(Drop)]
 pub struct Stores<const N: usize> {
@@ -25,13 +27,11 @@ impl<const N: usize> Stores<N> {
         }
     }
 
-    // Kept: the result is the number that is printed, and 0 where no line is `no`; a Result would be turned back into it.
-    pub fn call(&mut self, request: &[u32], answer: &mut [u32]) -> u32
-        ensures called { Calls request.now (lent self.old.«data» self.old.group answer.old) result (lent self.new.«data» self.new.group answer.new) }
+    pub fn call(&mut self, request: &[u32], answer: &mut [u32]) -> Result<(), Refusal>
+        ensures called { Calls request.now (lent self.old.«data» self.old.group answer.old) (result_number result) (lent self.new.«data» self.new.group answer.new) }
 
-        // What is printed of it: a number of two digits, or an answer no longer than its slice.
-        ensures small { result < 100 }
-        ensures few { answer_width ≤ length answer.old → result ≡ 0 → count_in (slice_index answer.new 0) < answer_width }
+        // What is printed of it: an answer no longer than its slice.
+        ensures few { answer_width ≤ length answer.old → result_number result ≡ 0 → count_in (slice_index answer.new 0) < answer_width }
     {
         call::inner_call(request, &mut self.data, &mut self.group, answer)
     }
