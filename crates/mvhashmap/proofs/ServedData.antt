@@ -11,7 +11,8 @@ use Rattle.types.specs.Index.{shifted_of, word_of}
 use Rattle.types.specs.Value.{value_at}
 use Rattle.types.specs.ValueWithLayout.{words_of, value_from}
 use Rattle.types.specs.declared.output.MVDataOutput.TheVariants.{Versioned}
-use Rattle.std.specs.Prelude.{Result, Ok}
+use Rattle.std.specs.Prelude.{Result, Ok, Some, IfSome}
+use Rattle.std.specs.Prelude.{Option as Perhaps}
 use Rattle.types.specs.declared.refusal.Refusal.{Refusal}
 use Rattle.types.specs.declared.index.ShiftedTxnIndex.{ShiftedTxnIndex}
 use Rattle.types.specs.declared.value.ValueWithLayout.{ValueWithLayout}
@@ -106,3 +107,7 @@ module _ (t d o : List ℕ) where
 pub write_put_lem : (o out : List ℕ) (at : ShiftedTxnIndex) (place : ℕ) → at ≡ shifted_of place → (i : ℕ) (v w : ValueWithLayout) → v ≡ w →
     out ≡ answer_in (versioned_answer (word_of at) i (words_of v)) o → out ≡ answer_in (versioned_answer place i (words_of w)) o
 write_put_lem o out at place e i v w f g = let same : word_of at ≡ place = ap word_of e in g ∙ rw (same, f)
+
+-- What holds of what was found.
+pub some_wrote : {A : Type 0} (P : A → Type 0) (o : Perhaps A) (w : A) → o ≡ Some w → IfSome o P → P w
+some_wrote P o w e h = rw e at h

@@ -70,8 +70,10 @@ pub fn inner_call(
     if !is_data(kind) {
         return group_request(&t[0..], &mut group[0..], &mut out[0..]);
     }
-    data_refusal(t, kind)?;
-    data_call(kind, t, data, out)
+    match data_refusal(t, kind) {
+        Err(refusal) => Err(refusal),
+        Ok(()) => data_call(kind, t, data, out),
+    }
 }
 
 // A call over any words.

@@ -3,7 +3,6 @@
 use mathlib.Core.Path.{sym, ◌∙◌}
 use borrow.Author.Tests.{eqb-true}
 use Rattle.mvhashmap.proofs.StoresSound.{data_valid_lem}
-use Rattle.versioned_data.proofs.Passed.{passed}
 use Rattle.mvhashmap.proofs.CallParts.{calls_short, calls_empty, group_ready, group_done, data_kind, data_refused, asked_data, calls_data}
 use Rattle.mvhashmap.proofs.call.inner_call.Goals as goal
 
@@ -32,24 +31,24 @@ data_refusal-requires-clause-first c = (data_kind _ _ c.is_data.ensures.«data»
 pub data_refusal-requires-clause-last : goal.data_refusal-requires-clause-last
 data_refusal-requires-clause-last c = (data_kind _ _ c.is_data.ensures.«data» c.if-not-is_data.false).1
 
-pub returns-in_err-data_refusal : goal.returns-in_err-data_refusal
-returns-in_err-data_refusal c =
-    record { called = rw (passed _ _ c.from_residual.ensures.1) (data_refused _ _ c.if-out-lt-ANSWER_WIDTH.false _ c.data_refusal.ensures.refused _ c.in_err-data_refusal.was) }
+pub returns-in-Err : goal.returns-in-Err
+returns-in-Err c =
+    record { called = data_refused _ _ c.if-out-lt-ANSWER_WIDTH.false _ c.data_refusal.ensures.refused _ c.in-Err.is }
 
 pub data_call-requires : goal.data_call-requires
 data_call-requires c =
     let is = data_kind _ _ c.is_data.ensures.«data» c.if-not-is_data.false in
     record {
       valid = data_valid_lem _ c.requires.sound;
-      asked = asked_data _ _ (λ i. (c.type_inv.t i).fits) c.if-out-lt-ANSWER_WIDTH.false _ c.kind_of-kind.ensures.kind _ c.data_refusal.ensures.refused _ c.in_ok-data_refusal.was;
+      asked = asked_data _ _ (λ i. (c.type_inv.t i).fits) c.if-out-lt-ANSWER_WIDTH.false _ c.kind_of-kind.ensures.kind _ c.data_refusal.ensures.refused _ c.in-Ok.is;
       some = is.0;
       «data» = is.1;
     }
 
-pub returns : goal.returns
-returns c =
+pub returns-in-Ok : goal.returns-in-Ok
+returns-in-Ok c =
     record {
       called = calls_data _ _ _ _ _
-          (asked_data _ _ (λ i. (c.type_inv.t i).fits) c.if-out-lt-ANSWER_WIDTH.false _ c.kind_of-kind.ensures.kind _ c.data_refusal.ensures.refused _ c.in_ok-data_refusal.was)
+          (asked_data _ _ (λ i. (c.type_inv.t i).fits) c.if-out-lt-ANSWER_WIDTH.false _ c.kind_of-kind.ensures.kind _ c.data_refusal.ensures.refused _ c.in-Ok.is)
           c.requires.sound _ _ _ c.data_call.ensures.served;
     }
