@@ -1,6 +1,6 @@
 -- The number of a refusal is one of two digits, and not 0.
 -- Assumes nothing.
-use Rattle.std.proofs.Common.{ℕ, ◌≡◌, ◌<◌, ⊥, arith}
+use Rattle.std.proofs.Common.{ℕ, ◌≡◌, ◌<◌, arith}
 use Rattle.types.specs.Refusal.{refusal_number}
 use Rattle.types.specs.declared.refusal.Refusal.{Refusal}
 use Rattle.types.specs.declared.refusal.Refusal.TheVariants.{AnswerTooShort, WrongCount, BadField, IndexTooHigh, DamagedStore, NothingThere, IncarnationNotHigher, BaseDiffers, LayoutUnderDelta, NoNumberUnderDelta, CommitRule, NothingToExchange, NotMaterializable, UnitsExhausted}
