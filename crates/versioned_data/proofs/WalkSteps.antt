@@ -327,10 +327,17 @@ pub record Walking (n : ℕ) (s : List ℕ) (key start rest : ℕ) (at : Option 
   pub deltas : rest ≡ deltas_in (down_rows key (position_from n s at) (rows_of n s))
   pub same : read_of (down_rows key start (rows_of n s)) ≡ walk (exactly acc) (down_rows key (position_from n s at) (rows_of n s))
 
-pub starts : (n : ℕ) (s : List ℕ) (key rest : ℕ) (at : Option Place) → Met n s at → rest ≡ 0 + deltas_in (down_rows key (position_from n s at) (rows_of n s)) →
-    Walking n s key (position_from n s at) (rest - 0) at Empty
-unfolding exactly read_of
-starts n s key rest at met e = record { met = met; deltas = omega (arith, e); same = refl }
+module _ (n : ℕ) (s : List ℕ) (store : DataStore n s) (key rest : ℕ) (at : Option Place) (met : Met n s at) where
+  starts : rest ≡ deltas_in (down_rows key (position_from n s at) (rows_of n s)) → Walking n s key (position_from n s at) (rest - 0) at Empty
+  unfolding exactly read_of
+  starts e = record { met = met; deltas = omega (arith, e); same = refl }
+
+  pub starts_none : at ≡ None → rest ≡ 0 → Walking n s key (position_from n s at) (rest - 0) at Empty
+  starts_none e r = starts (r ∙ sym (deltas_end key (position_from n s at) (rows_of n s) (from_none n s store key at met e)))
+
+  pub starts_some : (p : Place) → at ≡ Some p → rest ≡ 0 + deltas_in (down_rows key (position_in n s p.page p.cell) (rows_of n s)) →
+      Walking n s key (position_from n s at) (rest - 0) at Empty
+  starts_some p e r = starts (omega (arith, r) ∙ ap (λ (k : ℕ). deltas_in (down_rows key k (rows_of n s))) (from_is n s store key at met p e))
 
 module _ (n : ℕ) (s : List ℕ) (store : DataStore n s) (key start rest : ℕ) (at : Option Place) (acc : Accumulator) (w : Walking n s key start rest at acc) where
   -- where deltas are left there is a row of the key, which is one

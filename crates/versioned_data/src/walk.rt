@@ -9,8 +9,9 @@ ghost use Rattle.types.specs.Value.{value_at};
 ghost use Rattle.types.specs.ValueWithLayout.{words_of};
 ghost use Rattle.store.specs.Valid.{There};
 ghost use Rattle.model.specs.Data.{at_end, onto, below_deltas, at_write, dependency, versioned, walk, read_of};
+ghost use Rattle.versioned_data.specs.Down.{down_rows};
 ghost use Rattle.versioned_data.specs.Layout.{payload_width, delta_in, entry_of, row_ok};
-ghost use Rattle.versioned_data.specs.Rows.{rows_of, row_of_place, Met, position_from, down_place, OfKey};
+ghost use Rattle.versioned_data.specs.Rows.{rows_of, row_of_place, position_in, Met, position_from, down_place, OfKey};
 ghost use Rattle.versioned_data.specs.Step.{has_key, deltas_in};
 ghost use Rattle.versioned_data.specs.Output.{output_of};
 
@@ -178,20 +179,25 @@ impl<'a> Entries<'a> {
         acc.accumulate(ValidDelta::new(earlier))
     }
 
-    // How many done deltas without a shortcut a walk meets from a place down, while the key is the same, and those met before: the shifted index falls at
+    // How many done deltas without a shortcut a walk meets from a row down, while the key is the same, and those met before: the shifted index falls at
     // each call.
-    fn deltas(self, key: u32, at: Option<Place>, met: usize) -> usize
-        requires met { Met self.rows.units self.rows.words.now at }
-        requires few { met ≤ position_from self.rows.units self.rows.words.now at }
-        ensures deltas { result ≡ met + deltas_in (down_place self.entry.rows.units self.entry.rows.words.now key at) }
+    // Kept: `&self` and the place as two numbers. By value they go through memory: each call kept a frame, and a fetch over deltas took a fifth longer.
+    fn deltas(&self, key: u32, page: usize, cell: usize, met: usize) -> usize
+        requires there { There payload_width self.now.rows.units self.now.rows.words.now page cell }
+        requires few { met ≤ position_in self.now.rows.units self.now.rows.words.now page cell }
+        ensures deltas { result ≡ met + deltas_in (down_rows key (position_in self.now.rows.units self.now.rows.words.now page cell) (rows_of self.now.rows.units self.now.rows.words.now)) }
     {
-        let Some(p) = self.of_key(key, at) else {
+        let Some(p) = self.of_key(key, Some(Place { page, cell })) else {
             return met;
         };
         if self.rows.marks_at(p) % 8 != 1 {
             return met;
         }
-        self.deltas(key, self.rows.next(p), met + 1)
+        let met = met + 1;
+        let Some(after) = self.rows.next(p) else {
+            return met;
+        };
+        self.deltas(key, after.page, after.cell, met)
     }
 
     // The walk from a place down: past the deltas, which are merged one after the other, to where it stops.
@@ -199,7 +205,10 @@ impl<'a> Entries<'a> {
         requires met { Met self.rows.units self.rows.words.now start }
         ensures found { result ≡ output_of (read_of (down_place self.entry.rows.units self.entry.rows.words.now key start)) }
     {
-        let rest = self.deltas(key, start, 0);
+        let rest = match start {
+            None => 0,
+            Some(p) => self.deltas(key, p.page, p.cell, 0),
+        };
         let mut at = start;
         let mut acc = Accumulator::Empty;
         for _i in 0..rest {
