@@ -2,9 +2,6 @@
 -- Assumes nothing.
 use mathlib.Core.Path.{◌≡◌, refl, sym, ap, ◌∙◌}
 use mathlib.Core.List.{List, [], ◌∷◌}
-use mathlib.Core.Bool.{true, false}
-use Rattle.std.specs.Result.{is_ok}
-use Rattle.lists.proofs.Bools.{never}
 use Prim.Native.Nat.{ℕ, ◌+◌, ◌≤◌, ◌<◌}
 use native.Mathlib.Nat.{zero-add}
 use native.Mathlib.Omega.{arith}
@@ -79,17 +76,16 @@ module _ {T : Type 0} (f : T → Ruling Unit) (o p : T) (e : o ≡ p) (out : Lis
   put_refused n h = rw (e, h) (record { result = refl; words = refl })
 
 -- What an operation came to.
-module _ {A : Type 0} where
-  pub done_put : (r : Result A Refusal) (out after : List ℕ) → is_ok r ≡ true → after ≡ answer_in (response done_kind []) out →
-      Put (done_ruling (result_number r)) out (result_number r) after
-  unfolding done_ruling result_by out_by done_answer
-  done_put (Ok a) out after e w = record { result = refl; words = w }
-  done_put (Err refusal) out after e w = never (sym e)
+module _ {A : Type 0} (r : Result A Refusal) (out : List ℕ) where
+  pub done_put : (a : A) → r ≡ Ok a → (after : List ℕ) → after ≡ answer_in (response done_kind []) out → Put (done_ruling (result_number r)) out 0 after
+  unfolding done_ruling done_answer
+  done_put a e after w = put_accepted (λ (x : Result A Refusal). done_ruling (result_number x)) r (Ok a) e out done_answer after refl w
 
-  pub done_refused : (r : Result A Refusal) (out : List ℕ) → is_ok r ≡ false → Put (done_ruling (result_number r)) out (result_number r) out
-  unfolding done_ruling result_by out_by
-  done_refused (Ok a) out e = never e
-  done_refused (Err refusal) out e = rw (ne_eqb (refusal_number refusal) 0 (refusal_some refusal)) (record { result = refl; words = refl })
+  pub done_refused : (refusal : Refusal) → r ≡ Err refusal → Put (done_ruling (result_number r)) out (refusal_number refusal) out
+  unfolding done_ruling
+  done_refused refusal e =
+      put_refused (λ (x : Result A Refusal). done_ruling (result_number x)) r (Err refusal) e out (refusal_number refusal)
+      (rw (ne_eqb (refusal_number refusal) 0 (refusal_some refusal)) refl)
 
 -- "1 Versioned (index, incarnation, value); 11 Versioned at the base (value)"
 module _ (at incarnation : ℕ) (v : ValueWithLayout) (out first after : List ℕ) (room : answer_width ≤ length out) (i : Result ℕ StorageVersion) (e : i ≡ index_of at) where

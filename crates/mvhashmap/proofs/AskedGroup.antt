@@ -18,9 +18,9 @@ use Rattle.model.proofs.FineRequests.{request_of_fine}
 use Rattle.versioned_group_data.specs.Members.{members_at}
 use Rattle.mvhashmap.specs.Served.{is_data, Asked}
 
-pub group_base_fine : (t : List ℕ) (f : Fields) (o : List ℕ) → Asked t f o → f.kind ≡ GroupBase → fine_members 0 (members_at f.set f.value t) ≡ true
+pub group_base_fine : (t : List ℕ) (f : Fields) → Asked t f → f.kind ≡ GroupBase → fine_members 0 (members_at f.set f.value t) ≡ true
 unfolding members_at fine_request
-group_base_fine t f o a k =
+group_base_fine t f a k =
     and_right (is_word f.key) (fine_members 0 (members_of (tags_of f.set.low f.set.high) (drop f.value t)))
     (sym (ap fine_request (Asks.asks_group_base t passed.shape f passed.fields (ap number_of k))) ∙ request_of_fine t a.words passed.refusal)
   where

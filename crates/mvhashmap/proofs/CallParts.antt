@@ -38,13 +38,13 @@ use Rattle.mvhashmap.proofs.CallOrder.{refused_by_slice, refused_by_request, ref
 use Rattle.mvhashmap.proofs.StoresSound.{data_valid_lem, group_valid_lem, sound_both, call_of_long}
 use Rattle.mvhashmap.proofs.ServedWorks.{like_same}
 
-pub asked_accepted : (t o : List ℕ) → AreWords t → answer_width ≤ length o → (x : Result Fields Refusal) → x ≡ check_of t → (f : Fields) → x ≡ Ok f → Asked t f o
-asked_accepted t o w room x e f h = record { words = words_every t w; checked = sym e ∙ h; room = room }
+pub asked_accepted : (t : List ℕ) → AreWords t → (x : Result Fields Refusal) → x ≡ check_of t → (f : Fields) → x ≡ Ok f → Asked t f
+asked_accepted t w x e f h = record { words = words_every t w; checked = sym e ∙ h }
 
 -- What the check of a data request that did not refuse has told.
-pub asked_data : (t o : List ℕ) → AreWords t → answer_width ≤ length o → (k : ℕ) → k ≡ kind_at t → {A : Type 0} (x : Result A Refusal) → result_number x ≡ refusal_of t → (a : A) → x ≡ Ok a → DataAsked t k o
-asked_data t o w room k e x p a z =
-    record { words = words_every t w; passed = sym p ∙ ap result_number z; kind = sym e; room = room }
+pub asked_data : (t : List ℕ) → AreWords t → (k : ℕ) → k ≡ kind_at t → {A : Type 0} (x : Result A Refusal) → result_number x ≡ refusal_of t → (a : A) → x ≡ Ok a → DataAsked t k
+asked_data t w k e x p a z =
+    record { words = words_every t w; passed = sym p ∙ ap result_number z; kind = sym e }
 
 -- What the whole check that did not refuse has told.
 pub passed_told : (t : List ℕ) (x : Result Fields Refusal) → x ≡ check_of t → (f : Fields) → x ≡ Ok f → refusal_of t ≡ 0
@@ -157,18 +157,18 @@ module _ (t : List ℕ) (l : Lent) where
 
 -- ---- a part that is lent one store
 
-module _ (t d g o : List ℕ) (k : ℕ) (a : DataAsked t k o) (v : sound (stores d g) ≡ true) (r : ℕ) (after o-after : List ℕ) where
+module _ (t d g o : List ℕ) (k : ℕ) (a : DataAsked t k) (room : answer_width ≤ length o) (v : sound (stores d g) ≡ true) (r : ℕ) (after o-after : List ℕ) where
   pub calls_data : ServesData t d o r after o-after → Calls t (lent d g o) r (lent after g o-after)
-  calls_data s = calls_served t (lent d g o) a.room a.passed v r (lent after g o-after) (s.served g (group_valid_lem (stores d g) v))
+  calls_data s = calls_served t (lent d g o) room a.passed v r (lent after g o-after) (s.served g (group_valid_lem (stores d g) v))
 
-module _ (t g o : List ℕ) (v : group_valid g ≡ true) where
-  pub group_refused : answer_width ≤ length o → (x : Result Fields Refusal) → x ≡ check_of t → (refusal : Refusal) → x ≡ Err refusal → CallsGroup t g o (refusal_number refusal) g o
-  group_refused room x e refusal h = record { called = λ d u. calls_refused t (lent d g o) room x e refusal h }
+module _ (t g o : List ℕ) (room : answer_width ≤ length o) (v : group_valid g ≡ true) where
+  pub group_refused : (x : Result Fields Refusal) → x ≡ check_of t → (refusal : Refusal) → x ≡ Err refusal → CallsGroup t g o (refusal_number refusal) g o
+  group_refused x e refusal h = record { called = λ d u. calls_refused t (lent d g o) room x e refusal h }
 
-  pub group_served : (f : Fields) → Asked t f o → (r : ℕ) (after o-after : List ℕ) → ServesGroup t g o r after o-after → CallsGroup t g o r after o-after
+  pub group_served : (f : Fields) → Asked t f → (r : ℕ) (after o-after : List ℕ) → ServesGroup t g o r after o-after → CallsGroup t g o r after o-after
   group_served f a r after o-after s =
       record {
-        called = λ d u. calls_served t (lent d g o) a.room (accepted_passed t f a.checked).refusal (sound_both d g u v) r (lent d after o-after) (s.served d u);
+        called = λ d u. calls_served t (lent d g o) room (accepted_passed t f a.checked).refusal (sound_both d g u v) r (lent d after o-after) (s.served d u);
       }
 
 -- ---- slices lent whole, as parts
@@ -180,25 +180,13 @@ whole_after : (s u : List ℕ) → u ++ drop (length s - 0) s ≡ u
 whole_after s u = let e : drop (length s - 0) s ≡ [] = drop_of_length-le s {i = length s - 0} (omega arith) in rw e (append-nil u)
 
 -- The group store's part.
-module _ (t d g o : List ℕ) (room : answer_width ≤ length o) (v : sound (stores d g) ≡ true) where
+module _ (t d g : List ℕ) (v : sound (stores d g) ≡ true) where
   pub group_ready : (k : ℕ) → k ≡ kind_at t → (b : Bool) → b ≡ is_data k → b ≡ false →
-      (group_valid (take (length g - 0) g) ≡ true) × ((answer_width ≤ length (take (length o - 0) o)) × (is_data (kind_at (take (length t - 0) t)) ≡ false))
-  group_ready k e b h n =
-      rw (whole g, whole o, whole t) (group_valid_lem (stores d g) v, (room, ap is_data (sym e) ∙ sym h ∙ n))
+      (group_valid (take (length g - 0) g) ≡ true) × (is_data (kind_at (take (length t - 0) t)) ≡ false)
+  group_ready k e b h n = rw (whole g, whole t) (group_valid_lem (stores d g) v, ap is_data (sym e) ∙ sym h ∙ n)
 
-  pub group_done : (r : ℕ) (after o-after : List ℕ) → CallsGroup (take (length t - 0) t) (take (length g - 0) g) (take (length o - 0) o) r after o-after →
-      Calls t (lent d g o) r (lent d (after ++ drop (length g - 0) g) (o-after ++ drop (length o - 0) o))
-  group_done r after o-after c =
-      let s : CallsGroup t g o r after o-after = rw (← whole t, ← whole g, ← whole o) c in
-      rw (whole_after g after, whole_after o o-after) (s.called d (data_valid_lem (stores d g) v))
-
--- The data store's kinds that are seldom asked for.
-module _ (t d o : List ℕ) (k : ℕ) (a : DataAsked t k o) (v : data_valid d ≡ true) where
-  pub rare_ready : (data_valid (take (length d - 0) d) ≡ true) × DataAsked (take (length t - 0) t) k (take (length o - 0) o)
-  rare_ready = rw (whole d, whole t, whole o) (v, a)
-
-  pub rare_done : (r : ℕ) (after o-after : List ℕ) → ServesData (take (length t - 0) t) (take (length d - 0) d) (take (length o - 0) o) r after o-after →
-      ServesData t d o r (after ++ drop (length d - 0) d) (o-after ++ drop (length o - 0) o)
-  rare_done r after o-after s =
-      let f : ServesData t d o r after o-after = rw (← whole t, ← whole d, ← whole o) s in
-      rw (whole_after d after, whole_after o o-after) f
+  pub group_done : (o : List ℕ) (r : ℕ) (after o-after : List ℕ) → CallsGroup (take (length t - 0) t) (take (length g - 0) g) o r after o-after →
+      Calls t (lent d g o) r (lent d (after ++ drop (length g - 0) g) o-after)
+  group_done o r after o-after c =
+      let s : CallsGroup t g o r after o-after = rw (← whole t, ← whole g) c in
+      rw (whole_after g after) (s.called d (data_valid_lem (stores d g) v))

@@ -15,4 +15,6 @@ pub mod AnswerDones
 pub mod ServedData
 pub mod ServedGroup
 pub mod AskedGroup
+pub mod ServedKinds
+pub mod CallFront
 pub mod CallParts

@@ -1,8 +1,7 @@
 -- What each operation's promise, and its answer put into the slice, come to: the store's part of the call.
 -- Assumes nothing.
 use mathlib.Core.Path.{◌≡◌, refl, ap, ◌∙◌, sym}
-use mathlib.Core.Bool.{Bool, true, false}
-use native.Mathlib.Omega.{arith}
+use mathlib.Core.Bool.{true}
 use mathlib.Core.List.{List}
 use mathlib.Core.Option.{Option}
 use Prim.Native.Nat.{ℕ, suc, ◌+◌}
@@ -33,7 +32,7 @@ use Rattle.number.specs.declared.Number.{Number}
 use Rattle.delta.specs.declared.DeltaOp.{DeltaOp}
 use Rattle.versioned_data.proofs.EntriesHeld as Entries
 use Rattle.mvhashmap.specs.Answer.{done_ruling, output_answer, output_ruling, materialized_ruling, result_by, out_by, Put}
-use Rattle.mvhashmap.specs.Served.{ServesData, FetchedIf, DataAsked}
+use Rattle.mvhashmap.specs.Served.{ServesData}
 use Rattle.mvhashmap.proofs.AnswerOutputs.{output_kept}
 use Rattle.mvhashmap.proofs.AskedData.{Asks}
 use Rattle.mvhashmap.proofs.ServedWorks.{edits_data, reads_data}
@@ -58,7 +57,7 @@ module _ (t d o : List ℕ) (r : ℕ) (out : List ℕ) (v : data_valid d ≡ tru
         kept = output_kept (read_of (down_from key index (entries_in d))) (read_of_fine (down_from key index (entries_in d)) (fine_down_from key index (entries_in d) (Entries.fine_valid d v)))
 
     -- a fetch that ends at a write, answered from the store's words
-    serves_write : Asks t (read_data key index fetch_data) → r ≡ 0 → (content place : ℕ) → Wrote d key index content place →
+    pub serves_write : Asks t (read_data key index fetch_data) → r ≡ 0 → (content place : ℕ) → Wrote d key index content place →
         out ≡ answer_in (versioned_answer place (get_or d content 0) (words_of (value_from (value_at (content + 1) d)))) o → ServesData t d o r d out
     unfolding output_ruling output_answer result_by out_by
     serves_write a z content place h g =
@@ -74,34 +73,6 @@ module _ (t d o : List ℕ) (r : ℕ) (out : List ℕ) (v : data_valid d ≡ tru
         edits_data t o r out d key (suc index) (suc index) materialize_delta after a
         (rw (ap materialized_ruling p.answer ∙ materialized_told d v key (suc index) (read_of (down_from key (suc index) (entries_in d))) _ refl) at q)
         p.left
-
-module _ (t d o : List ℕ) where
-  pub fetched_write : data_valid d ≡ true → (key index : ℕ) → Asks t (read_data key index fetch_data) → (content place : ℕ) → Wrote d key index content place → (out : List ℕ) →
-      out ≡ answer_in (versioned_answer place (get_or d content 0) (words_of (value_from (value_at (content + 1) d)))) o → FetchedIf true t d o out
-  unfolding FetchedIf
-  fetched_write v key index a content place h out g = serves_write t d o 0 out v key index a refl content place h g
-
-  pub fetched_none : FetchedIf false t d o o
-  unfolding FetchedIf
-  fetched_none = refl
-
-  pub fetched_served : (b : Bool) (out : List ℕ) → b ≡ true → FetchedIf b t d o out → ServesData t d o 0 d out
-  unfolding FetchedIf
-  fetched_served true out e f = f
-  fetched_served false out e f = absurd (let z : ◌≡◌ {A = ℕ} 0 1 = cc in omega arith)
-
-  pub fetched_kept : (b : Bool) (out : List ℕ) → b ≡ false → FetchedIf b t d o out → out ≡ o
-  unfolding FetchedIf
-  fetched_kept false out e f = f
-  fetched_kept true out e f = absurd (let z : ◌≡◌ {A = ℕ} 0 1 = cc in omega arith)
-
-  -- a fetch that is left to the walk
-  module _ (b : Bool) (out : List ℕ) (e : b ≡ false) (f : FetchedIf b t d o out) where
-    pub fetched_asked : (k : ℕ) → DataAsked t k o → DataAsked t k out
-    fetched_asked k a = rw (fetched_kept b out e f) a
-
-    pub fetched_after : (r : ℕ) (after x : List ℕ) → ServesData t d out r after x → ServesData t d o r after x
-    fetched_after r after x h = rw (fetched_kept b out e f) at h
 
 -- the write's answer, by the code's values
 pub write_put_lem : (o out : List ℕ) (at : ShiftedTxnIndex) (place : ℕ) → at ≡ shifted_of place → (i : ℕ) (v w : ValueWithLayout) → v ≡ w →

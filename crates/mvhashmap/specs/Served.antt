@@ -1,7 +1,6 @@
 -- What the part of a call that does the work promises: the whole of `Calls` for a request that 1 to 4 do not refuse, over sound stores.
-use Rattle.std.specs.Prelude.{◌≡◌, Bool, true, false, ◌&&◌, List, ℕ, ◌≤◌, leb, length, Ok}
+use Rattle.std.specs.Prelude.{◌≡◌, Bool, true, ◌&&◌, List, ℕ, leb, Ok}
 use Rattle.lists.specs.Lists.{every}
-use Rattle.types.specs.Response.{answer_width}
 use Rattle.request.specs.Request.{refusal_of, request_of}
 use Rattle.request.specs.Fields.{kind_at}
 use Rattle.request.specs.Checked.{check_of}
@@ -17,16 +16,14 @@ unfoldable pub is_data : ℕ → Bool
 is_data kind = leb 1 kind && leb kind 7
 
 -- A request of words that 1 to 4 do not refuse: one for the data store by its words, one for the group store by its fields.
-pub record DataAsked (t : List ℕ) (number : ℕ) (out : List ℕ) : Type 0 where
+pub record DataAsked (t : List ℕ) (number : ℕ) : Type 0 where
   pub words : every is_word t ≡ true
   pub passed : refusal_of t ≡ 0
   pub kind : kind_at t ≡ number
-  pub room : answer_width ≤ length out
 
-pub record Asked (t : List ℕ) (f : Fields) (out : List ℕ) : Type 0 where
+pub record Asked (t : List ℕ) (f : Fields) : Type 0 where
   pub words : every is_word t ≡ true
   pub checked : check_of t ≡ Ok f
-  pub room : answer_width ≤ length out
 
 -- What it comes to over sound stores: refusals 6 to 14, or the answer and what the stores hold after.
 unfoldable pub served_by : List ℕ → View → CalledView
@@ -41,11 +38,6 @@ pub record Serves (t : List ℕ) (before : Lent) (r : ℕ) (after : Lent) : Type
 -- A part that is lent one store: the same, whatever valid store stands beside it.
 pub record ServesData (t d out : List ℕ) (r : ℕ) (after outAfter : List ℕ) : Type 0 where
   pub served : (g : List ℕ) → group_valid g ≡ true → Serves t (lent d g out) r (lent after g outAfter)
-
--- A fetch that is answered, or that leaves the answer slice as it is.
-unfoldable pub FetchedIf : Bool → List ℕ → List ℕ → List ℕ → List ℕ → Type 0
-FetchedIf true t d out after = ServesData t d out 0 d after
-FetchedIf false t d out after = after ≡ out
 
 pub record ServesGroup (t g out : List ℕ) (r : ℕ) (after outAfter : List ℕ) : Type 0 where
   pub served : (d : List ℕ) → data_valid d ≡ true → Serves t (lent d g out) r (lent d after outAfter)

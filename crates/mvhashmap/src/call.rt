@@ -1,7 +1,7 @@
 // The call: the refusals 1 to 5, lowest first, and the store that does the work.
-ghost use Rattle.std.specs.Prelude.{◌≡◌, true, false, ◌≤◌, ◌<◌, length};
-ghost use Rattle.types.specs.Response.{answer_width};
+ghost use Rattle.std.specs.Prelude.{◌≡◌, true, false, ◌<◌, length};
 ghost use Rattle.types.specs.Refusal.{result_number};
+ghost use Rattle.types.specs.Response.{answer_width};
 ghost use Rattle.request.specs.Table.{number_of};
 ghost use Rattle.request.specs.Fields.{kind_at};
 ghost use Rattle.group_slots.specs.Layout.{group_valid};
@@ -27,27 +27,50 @@ fn kind_of(t: &[u32]) -> Kind
 fn is_data(kind: Kind) -> bool
     ensures data { result ≡ is_data (number_of kind) }
 {
-    match kind {
+    matches!(
+        kind,
         Kind::Base
-        | Kind::Write
-        | Kind::AddDelta
-        | Kind::Estimate
-        | Kind::Remove
-        | Kind::Fetch
-        | Kind::Materialize => true,
-        _ => false,
-    }
+            | Kind::Write
+            | Kind::AddDelta
+            | Kind::Estimate
+            | Kind::Remove
+            | Kind::Fetch
+            | Kind::Materialize
+    )
 }
 
 // A request for the group store.
-fn group_request(t: &[u32], group: &mut [u32], out: &mut [u32]) -> Result<(), Refusal>
+fn group_request(t: &[u32], group: &mut [u32], out: &mut [u32; ANSWER_WIDTH]) -> Result<(), Refusal>
     requires valid { group_valid group.old ≡ true }
-    requires room { answer_width ≤ length out.old }
     requires kind { is_data (kind_at t.now) ≡ false }
     ensures called { CallsGroup t.now group.old out.old (result_number result) group.new out.new }
 {
     let f = request::check(t)?;
     group_call(f, t, group, out)
+}
+
+// A call with words for the longest answer.
+fn call_into(
+    t: &[u32],
+    data: &mut [u32],
+    group: &mut [u32],
+    out: &mut [u32; ANSWER_WIDTH],
+) -> Result<(), Refusal>
+    requires sound { sound (stores «data».old group.old) ≡ true }
+    ensures called { Calls t.now (lent «data».old group.old out.old) (result_number result) (lent «data».new group.new out.new) }
+    ensures size { length out.new ≡ answer_width }
+{
+    if t.is_empty() {
+        return Err(Refusal::WrongCount);
+    }
+    let kind = kind_of(t);
+    if !is_data(kind) {
+        return group_request(&t[0..], &mut group[0..], out);
+    }
+    match data_refusal(t, kind) {
+        Err(refusal) => Err(refusal),
+        Ok(()) => data_call(kind, t, data, out),
+    }
 }
 
 // A call by a caller who knows that the stores are sound.
@@ -60,19 +83,9 @@ pub fn inner_call(
     requires sound { sound (stores «data».old group.old) ≡ true }
     ensures called { Calls t.now (lent «data».old group.old out.old) (result_number result) (lent «data».new group.new out.new) }
 {
-    if out.len() < ANSWER_WIDTH {
-        return Err(Refusal::AnswerTooShort);
-    }
-    if t.is_empty() {
-        return Err(Refusal::WrongCount);
-    }
-    let kind = kind_of(t);
-    if !is_data(kind) {
-        return group_request(&t[0..], &mut group[0..], &mut out[0..]);
-    }
-    match data_refusal(t, kind) {
-        Err(refusal) => Err(refusal),
-        Ok(()) => data_call(kind, t, data, out),
+    match out.first_chunk_mut::<ANSWER_WIDTH>() {
+        Some(front) => call_into(t, data, group, front),
+        None => Err(Refusal::AnswerTooShort),
     }
 }
 

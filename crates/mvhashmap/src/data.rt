@@ -3,11 +3,12 @@ ghost use Rattle.std.specs.Prelude.{◌≡◌, true, ◌≤◌};
 ghost use Rattle.types.specs.Refusal.{result_number};
 ghost use Rattle.request.specs.Table.{number_of};
 ghost use Rattle.versioned_data.specs.Layout.{data_valid};
-ghost use Rattle.mvhashmap.specs.Served.{DataAsked, ServesData, FetchedIf};
+ghost use Rattle.mvhashmap.specs.Served.{DataAsked, ServesData};
 
 use crate::answer::{done, put_data_output, put_materialized, put_write};
 use request::kind::Kind;
 use types::refusal::Refusal;
+use types::response::ANSWER_WIDTH;
 use versioned_data::{edit, fetch, materialize};
 
 // The places of the fields: single words, the values of a base and of a write, and a delta.
@@ -23,102 +24,41 @@ const WRITE_VALUE: usize = 4;
 
 const DELTA: usize = 3;
 
-fn set_base_value(t: &[u32], s: &mut [u32], out: &mut [u32]) -> Result<(), Refusal>
-    requires valid { data_valid s.old ≡ true }
-    requires asked { DataAsked t.now 1 out.old }
-    ensures served { ServesData t.now s.old out.old (result_number result) s.new out.new }
-{
-    let n = edit::set_base_value(s, t[KEY], t, BASE_VALUE);
-    done(out, n)
-}
-
-fn write(t: &[u32], s: &mut [u32], out: &mut [u32]) -> Result<(), Refusal>
-    requires valid { data_valid s.old ≡ true }
-    requires asked { DataAsked t.now 2 out.old }
-    ensures served { ServesData t.now s.old out.old (result_number result) s.new out.new }
-{
-    let n = edit::write(s, t[KEY], t[INDEX], t[INCARNATION], t, WRITE_VALUE);
-    done(out, n)
-}
-
-fn add_delta(t: &[u32], s: &mut [u32], out: &mut [u32]) -> Result<(), Refusal>
-    requires valid { data_valid s.old ≡ true }
-    requires asked { DataAsked t.now 3 out.old }
-    ensures served { ServesData t.now s.old out.old (result_number result) s.new out.new }
-{
-    let n = edit::add_delta(s, t[KEY], t[INDEX], t, DELTA);
-    done(out, n)
-}
-
-fn mark_estimate(t: &[u32], s: &mut [u32], out: &mut [u32]) -> Result<(), Refusal>
-    requires valid { data_valid s.old ≡ true }
-    requires asked { DataAsked t.now 4 out.old }
-    ensures served { ServesData t.now s.old out.old (result_number result) s.new out.new }
-{
-    let n = edit::mark_estimate(s, t[KEY], t[INDEX]);
-    done(out, n)
-}
-
-fn remove(t: &[u32], s: &mut [u32], out: &mut [u32]) -> Result<(), Refusal>
-    requires valid { data_valid s.old ≡ true }
-    requires asked { DataAsked t.now 5 out.old }
-    ensures served { ServesData t.now s.old out.old (result_number result) s.new out.new }
-{
-    let n = edit::remove(s, t[KEY], t[INDEX]);
-    done(out, n)
-}
-
-// The write at which nearly every fetch ends, answered from the store's words. False where the fetch finds something else.
-fn fetch_write(t: &[u32], s: &[u32], out: &mut [u32]) -> bool
+// A fetch that ends at no write.
+fn fetch_other(t: &[u32], s: &[u32], out: &mut [u32; ANSWER_WIDTH]) -> Result<(), Refusal>
     requires valid { data_valid s.now ≡ true }
-    requires asked { DataAsked t.now 6 out.old }
-    ensures fetched { FetchedIf result t.now s.now out.old out.new }
-{
-    match fetch::first_write(s, t[KEY], t[INDEX]) {
-        Some(w) => {
-            put_write(s, w.content, w.place, out);
-            true
-        }
-        None => false,
-    }
-}
-
-fn fetch_other(t: &[u32], s: &mut [u32], out: &mut [u32]) -> Result<(), Refusal>
-    requires valid { data_valid s.old ≡ true }
-    requires asked { DataAsked t.now 6 out.old }
-    ensures served { ServesData t.now s.old out.old (result_number result) s.new out.new }
+    requires asked { DataAsked t.now 6 }
+    ensures served { ServesData t.now s.now out.old (result_number result) s.now out.new }
 {
     let o = fetch::fetch_data(s, t[KEY], t[INDEX])?;
     put_data_output(out, o);
     Ok(())
 }
 
-// Parts of the slices are handed on, so that the slices themselves stay out of memory.
-fn fetch_data(t: &[u32], s: &mut [u32], out: &mut [u32]) -> Result<(), Refusal>
-    requires valid { data_valid s.old ≡ true }
-    requires asked { DataAsked t.now 6 out.old }
-    ensures served { ServesData t.now s.old out.old (result_number result) s.new out.new }
+// Nearly every fetch ends at a write, which is answered from the store's words.
+fn fetch_data(t: &[u32], s: &[u32], out: &mut [u32; ANSWER_WIDTH]) -> Result<(), Refusal>
+    requires valid { data_valid s.now ≡ true }
+    requires asked { DataAsked t.now 6 }
+    ensures served { ServesData t.now s.now out.old (result_number result) s.now out.new }
 {
-    if fetch_write(t, s, out) {
-        return Ok(());
+    match fetch::first_write(s, t[KEY], t[INDEX]) {
+        Some(w) => {
+            put_write(s, w.content, w.place, out);
+            Ok(())
+        }
+        None => fetch_other(&t[0..], &s[0..], out),
     }
-    fetch_other(&t[0..], &mut s[0..], &mut out[0..])
-}
-
-fn materialize_delta(t: &[u32], s: &mut [u32], out: &mut [u32]) -> Result<(), Refusal>
-    requires valid { data_valid s.old ≡ true }
-    requires asked { DataAsked t.now 7 out.old }
-    ensures served { ServesData t.now s.old out.old (result_number result) s.new out.new }
-{
-    let m = materialize::materialize_delta(s, t[KEY], t[INDEX])?;
-    put_materialized(out, m);
-    Ok(())
 }
 
 // The kinds that are seldom asked for.
-fn rare_call(kind: Kind, t: &[u32], s: &mut [u32], out: &mut [u32]) -> Result<(), Refusal>
+fn rare_call(
+    kind: Kind,
+    t: &[u32],
+    s: &mut [u32],
+    out: &mut [u32; ANSWER_WIDTH],
+) -> Result<(), Refusal>
     requires valid { data_valid s.old ≡ true }
-    requires asked { DataAsked t.now (number_of kind) out.old }
+    requires asked { DataAsked t.now (number_of kind) }
     requires some { 1 ≤ number_of kind }
     requires data { number_of kind ≤ 7 }
     requires no_fetch { kind ≡ Kind.Fetch → ⊥ }
@@ -127,25 +67,37 @@ fn rare_call(kind: Kind, t: &[u32], s: &mut [u32], out: &mut [u32]) -> Result<()
     ensures served { ServesData t.now s.old out.old (result_number result) s.new out.new }
 {
     match kind {
-        Kind::Base => set_base_value(t, s, out),
-        Kind::AddDelta => add_delta(t, s, out),
-        Kind::Estimate => mark_estimate(t, s, out),
-        _ => materialize_delta(t, s, out),
+        Kind::Base => done(out, edit::set_base_value(s, t[KEY], t, BASE_VALUE)),
+        Kind::AddDelta => done(out, edit::add_delta(s, t[KEY], t[INDEX], t, DELTA)),
+        Kind::Estimate => done(out, edit::mark_estimate(s, t[KEY], t[INDEX])),
+        _ => {
+            let m = materialize::materialize_delta(s, t[KEY], t[INDEX])?;
+            put_materialized(out, m);
+            Ok(())
+        }
     }
 }
 
 // Fetches, writes and removals first. The others are handed parts of the slices, so that the slices themselves stay out of memory.
-pub fn data_call(kind: Kind, t: &[u32], s: &mut [u32], out: &mut [u32]) -> Result<(), Refusal>
+pub fn data_call(
+    kind: Kind,
+    t: &[u32],
+    s: &mut [u32],
+    out: &mut [u32; ANSWER_WIDTH],
+) -> Result<(), Refusal>
     requires valid { data_valid s.old ≡ true }
-    requires asked { DataAsked t.now (number_of kind) out.old }
+    requires asked { DataAsked t.now (number_of kind) }
     requires some { 1 ≤ number_of kind }
     requires data { number_of kind ≤ 7 }
     ensures served { ServesData t.now s.old out.old (result_number result) s.new out.new }
 {
     match kind {
         Kind::Fetch => fetch_data(t, s, out),
-        Kind::Write => write(t, s, out),
-        Kind::Remove => remove(t, s, out),
-        _ => rare_call(kind, &t[0..], &mut s[0..], &mut out[0..]),
+        Kind::Write => done(
+            out,
+            edit::write(s, t[KEY], t[INDEX], t[INCARNATION], t, WRITE_VALUE),
+        ),
+        Kind::Remove => done(out, edit::remove(s, t[KEY], t[INDEX])),
+        _ => rare_call(kind, &t[0..], &mut s[0..], out),
     }
 }

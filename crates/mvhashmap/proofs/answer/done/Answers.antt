@@ -1,11 +1,11 @@
 -- `mvhashmap::answer::done` meets its contract.
 -- Assumes nothing.
-use mathlib.Core.Path.{sym, ◌∙◌}
+use Rattle.versioned_data.proofs.Passed.{passed}
 use Rattle.mvhashmap.proofs.AnswerPuts.{done_put, done_refused}
 use Rattle.mvhashmap.proofs.answer.done.Goals as goal
 
-pub returns-then-is_ok : goal.returns-then-is_ok
-returns-then-is_ok c = record { put = done_put _ _ _ (sym c.is_ok.ensures.value ∙ c.if-is_ok.true) c.put_bare.ensures.put }
+pub returns-in_err-r : goal.returns-in_err-r
+returns-in_err-r c = record { put = rw (passed _ _ c.from_residual.ensures.1) (done_refused _ _ _ c.in_err-r.was) }
 
-pub returns-else-is_ok : goal.returns-else-is_ok
-returns-else-is_ok c = record { put = done_refused _ _ (sym c.is_ok.ensures.value ∙ c.if-is_ok.false) }
+pub returns : goal.returns
+returns c = record { put = done_put _ _ _ c.in_ok-r.was _ c.put_bare.ensures.put }

@@ -7,4 +7,4 @@ use Rattle.mvhashmap.proofs.answer.put_delta.Goals as goal
 
 pub returns : goal.returns
 returns c =
-    record { put = put_response 3 17 _ _ _ _ (length_delta_words _) (omega arith) c.requires.room c.put_head.ensures.put c.write.ensures.written }
+    record { put = put_response 3 17 _ _ _ _ (length_delta_words _) (omega arith) (omega arith) c.put_head.ensures.put c.write.ensures.written }

@@ -7,4 +7,4 @@ use Rattle.mvhashmap.proofs.answer.put_dependency.Goals as goal
 
 pub returns : goal.returns
 returns c =
-    record { put = put_response 6 1 _ _ _ _ refl (omega arith) c.requires.room c.put_head.ensures.put refl }
+    record { put = put_response 6 1 _ _ _ _ refl (omega arith) (omega arith) c.put_head.ensures.put refl }

@@ -9,4 +9,4 @@ use Rattle.mvhashmap.proofs.answer.put_number.Goals as goal
 pub returns : goal.returns
 unfolding digits
 returns c =
-    record { put = put_response 2 4 _ _ _ _ refl (omega arith) c.requires.room c.put_head.ensures.put c.write.ensures.written }
+    record { put = put_response 2 4 _ _ _ _ refl (omega arith) (omega arith) c.put_head.ensures.put c.write.ensures.written }

@@ -2,12 +2,8 @@
 -- Assumes nothing.
 use Rattle.mvhashmap.proofs.AnswerPuts.{versioned_at_base, versioned_at_index}
 use lib.ListN.{length-set}
-use mathlib.Core.Path.{◌∙◌}
 use native.Mathlib.Omega.{arith}
 use Rattle.mvhashmap.proofs.answer.put_versioned.Goals as goal
-
-pub bounds-out-2 : goal.bounds-out-2
-bounds-out-2 c = simp length-set (omega arith)
 
 pub write-requires : goal.write-requires
 write-requires c =
@@ -15,12 +11,8 @@ write-requires c =
 
 pub returns-in-Err : goal.returns-in-Err
 returns-in-Err c =
-    record { put = versioned_at_base _ _ _ _ _ _ c.requires.room _ c.idx.ensures.unshifted _ c.in-Err.is c.put_head-in-Err.ensures.put c.write-in-Err.ensures.written }
-
-pub shape_of-out-in-Ok : goal.shape_of-out-in-Ok
-shape_of-out-in-Ok c =
-    c.write.auto.s ∙ simp length-set c.put_head.auto.out
+    record { put = versioned_at_base _ _ _ _ _ _ (omega arith) _ c.idx.ensures.unshifted _ c.in-Err.is c.put_head-in-Err.ensures.put c.write-in-Err.ensures.written }
 
 pub returns-in-Ok : goal.returns-in-Ok
 returns-in-Ok c =
-    record { put = versioned_at_index _ _ _ _ _ _ c.requires.room _ c.idx.ensures.unshifted _ c.in-Ok.is c.put_head.ensures.put c.write.ensures.written }
+    record { put = versioned_at_index _ _ _ _ _ _ (omega arith) _ c.idx.ensures.unshifted _ c.in-Ok.is c.put_head.ensures.put c.write.ensures.written }

@@ -1,19 +1,24 @@
 -- `mvhashmap::data::fetch_data` meets its contract.
 -- Assumes nothing.
-use Rattle.mvhashmap.proofs.ServedData.{fetched_served, fetched_asked, fetched_after}
-use Rattle.mvhashmap.proofs.CallParts.{rare_ready, rare_done}
+use mathlib.Core.Path.{refl}
+use native.Mathlib.Omega.{arith}
+use Rattle.mvhashmap.proofs.ServedData.{some_wrote, serves_write}
+use Rattle.mvhashmap.proofs.AskedData.{words_inside, data_served, asks_fetch}
 use Rattle.mvhashmap.proofs.data.fetch_data.Goals as goal
 
-pub returns-then-fetch_write : goal.returns-then-fetch_write
-returns-then-fetch_write c =
-    record { served = fetched_served _ _ _ _ _ c.if-fetch_write.true c.fetch_write.ensures.fetched }
+pub bounds-t-1 : goal.bounds-t-1
+bounds-t-1 c = omega (arith, words_inside _ 6 c.requires.asked (omega arith) (omega arith))
 
-pub fetch_other-requires : goal.fetch_other-requires
-fetch_other-requires c =
-    let r = rare_ready _ _ _ _ (fetched_asked _ _ _ _ _ c.if-fetch_write.false c.fetch_write.ensures.fetched _ c.requires.asked) c.requires.valid in
-    record { valid = r.0; asked = r.1 }
+pub bounds-t-2 : goal.bounds-t-2
+bounds-t-2 c = omega (arith, words_inside _ 6 c.requires.asked (omega arith) (omega arith))
 
-pub returns : goal.returns
-returns c =
-    let kept = c.if-fetch_write.false in
-    record { served = fetched_after _ _ _ _ _ kept c.fetch_write.ensures.fetched _ _ _ (rare_done _ _ _ _ (fetched_asked _ _ _ _ _ kept c.fetch_write.ensures.fetched _ c.requires.asked) c.requires.valid _ _ _ c.fetch_other.ensures.served) }
+pub first_write-requires : goal.first_write-requires
+first_write-requires c =
+    record { store = c.requires.valid; served = data_served _ 6 c.requires.asked (omega arith) (omega arith) }
+
+pub put_write-requires : goal.put_write-requires
+put_write-requires c = record { inside = (some_wrote _ _ _ c.in-Some.is c.first_write.ensures.wrote).inside }
+
+pub returns-in-Some : goal.returns-in-Some
+returns-in-Some c =
+    record { served = serves_write _ _ _ _ _ c.requires.valid _ _ (asks_fetch _ c.requires.asked) refl _ _ (some_wrote _ _ _ c.in-Some.is c.first_write.ensures.wrote) c.put_write.ensures.put }
