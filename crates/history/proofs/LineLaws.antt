@@ -42,13 +42,26 @@ puts_next o p q xs k d h e x y = rw (take_next xs k h, e) (puts_then o p q (take
 
 -- ---- digits
 
-pub digit_low : (d r : ℕ) → d < 10 → r ≡ 48 + d → r ≡ digit_of d
+-- A digit, by the table of the sixteen.
+pub digit_told : (d : ℕ) → d < 16 → get_or (48 ∷ 49 ∷ 50 ∷ 51 ∷ 52 ∷ 53 ∷ 54 ∷ 55 ∷ 56 ∷ 57 ∷ 65 ∷ 66 ∷ 67 ∷ 68 ∷ 69 ∷ 70 ∷ []) d 0 ≡ digit_of d
 unfolding digit_of
-digit_low d r h e = rw (lt-ltb d 10 h) e
-
-pub digit_high : (d r : ℕ) → 10 ≤ d → r ≡ 55 + d → r ≡ digit_of d
-unfolding digit_of
-digit_high d r h e = rw (le-ltb d 10 h) e
+digit_told zero h = refl
+digit_told (suc zero) h = refl
+digit_told (suc (suc zero)) h = refl
+digit_told (suc (suc (suc zero))) h = refl
+digit_told (suc (suc (suc (suc zero)))) h = refl
+digit_told (suc (suc (suc (suc (suc zero))))) h = refl
+digit_told (suc (suc (suc (suc (suc (suc zero)))))) h = refl
+digit_told (suc (suc (suc (suc (suc (suc (suc zero))))))) h = refl
+digit_told (suc (suc (suc (suc (suc (suc (suc (suc zero)))))))) h = refl
+digit_told (suc (suc (suc (suc (suc (suc (suc (suc (suc zero))))))))) h = refl
+digit_told (suc (suc (suc (suc (suc (suc (suc (suc (suc (suc zero)))))))))) h = refl
+digit_told (suc (suc (suc (suc (suc (suc (suc (suc (suc (suc (suc zero))))))))))) h = refl
+digit_told (suc (suc (suc (suc (suc (suc (suc (suc (suc (suc (suc (suc zero)))))))))))) h = refl
+digit_told (suc (suc (suc (suc (suc (suc (suc (suc (suc (suc (suc (suc (suc zero))))))))))))) h = refl
+digit_told (suc (suc (suc (suc (suc (suc (suc (suc (suc (suc (suc (suc (suc (suc zero)))))))))))))) h = refl
+digit_told (suc (suc (suc (suc (suc (suc (suc (suc (suc (suc (suc (suc (suc (suc (suc zero))))))))))))))) h = refl
+digit_told (suc (suc (suc (suc (suc (suc (suc (suc (suc (suc (suc (suc (suc (suc (suc (suc d)))))))))))))))) h = absurd (omega arith)
 
 pub hex_digit : (w k : ℕ) → k < 8 → get_or (hex_word w) k 0 ≡ digit_of (w / 2 ^ (28 - 4 * k) % 16)
 unfolding hex_word hex_at

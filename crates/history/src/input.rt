@@ -23,6 +23,7 @@ pub struct Input<const N: usize> {
     // Bytes that were read.
     pub got: u64,
     // No more input comes.
+    // Kept: a flag, beside no value: the bytes that are unread are there before and after.
     pub over: bool,
     ghost from: { at ≤ end },
     ghost to: { end ≤ length bytes },

@@ -69,6 +69,7 @@ impl<const N: usize> Output<N> {
     }
 
     // Puts the 8 digits of a word.
+    // Kept: no `write!`, which promises its bytes only where it gives Ok, and nowhere that it does; what is put here cannot fail.
     fn put_word(&mut self, w: u32)
         requires room { self.old.put + 8 ≤ N }
         ensures puts { Puts self.old self.new (hex_word w) }
@@ -160,10 +161,7 @@ fn digit(d: u32) -> u8
     requires small { d < 16 }
     ensures digit { result ≡ digit_of d }
 {
-    if d < 10 {
-        return b'0' + d as u8;
-    }
-    b'A' + (d - 10) as u8
+    b"0123456789ABCDEF"[d as usize]
 }
 
 // Writes all of the bytes, or stops at the first write that fails or takes nothing.

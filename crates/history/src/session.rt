@@ -20,19 +20,21 @@ pub struct Session<const BLOCK: usize, const WORDS: usize, const STORE: usize> {
     pub answer: [u32; WORDS],
     pub stores: Stores<STORE>,
     // No more lines come.
+    // Kept: a flag, beside no value: a session that has stopped holds all that one that goes on does, and still writes what waits.
     pub stopped: bool,
     ghost request_fits: { suc longest_count ≤ WORDS },
     ghost answer_fits: { answer_width ≤ WORDS },
 }
 
 impl<const BLOCK: usize, const WORDS: usize, const STORE: usize> Session<BLOCK, WORDS, STORE> {
-    ghost use Rattle.std.specs.Prelude.{◌≡◌, ◌+◌, ◌-◌, ◌^◌, ◌<◌, true, false, length, drop, is_err};
+    ghost use Rattle.std.specs.Prelude.{◌≡◌, ◌+◌, ◌-◌, ◌^◌, ◌<◌, true, false, length, drop, replicate, is_err};
     ghost use Rattle.std.specs.Io.KnownBytes.{Consumes};
     ghost use Rattle.history.specs.State.{longest_request, longest_line, unread, ReadOn, budget, start};
     ghost use Rattle.history.specs.Turn.{Answered, Turned};
     ghost use Rattle.history.specs.Ran.{Ran};
     ghost use Rattle.history.specs.Moved.{TurnedBy, RanBy};
     ghost use Rattle.history.specs.Session.{state_of, view_in};
+    ghost use Rattle.mvhashmap.specs.Call.{lent, view_of};
 
     pub fn new() -> Self
         requires block { longest_request ≤ BLOCK }
@@ -40,6 +42,7 @@ impl<const BLOCK: usize, const WORDS: usize, const STORE: usize> Session<BLOCK, 
         requires request { suc longest_count ≤ WORDS }
         requires answer { answer_width ≤ WORDS }
         ensures start { state_of result false ≡ start }
+        ensures cleared { view_in result ≡ view_of (lent (replicate STORE 0) (replicate STORE 0) (replicate WORDS 0)) }
     {
         Session {
             input: Input::new(),
@@ -112,6 +115,7 @@ impl<const BLOCK: usize, const WORDS: usize, const STORE: usize> Session<BLOCK, 
         ensures ran { state_of self.old false ≡ start → Ran (view_in self.old) (state_of self.new (is_err result)) (view_in self.new) }
         ensures moved { state_of self.old false ≡ start → RanBy (R.remaining reader.old) (R.remaining reader.new) (W.contents writer.old) (W.contents writer.new) (view_in self.old) (state_of self.new (is_err result)) (view_in self.new) }
     {
+        // Kept: it counts nothing: each turn decides what is left to do.
         while !self.stopped || self.output.waiting() > 0 {
             self.turn(reader, writer)?;
         }
