@@ -8,7 +8,3 @@ loop-i-init c = (refl, load_start c.args.b.now c.args.words.now)
 pub loop-i-preserved : goal.loop-i-preserved
 loop-i-preserved c =
     (simp length-set c.loop-i.invariant.0, load_again c.args.b.now c.args.words.now _ c.loop-i.i _ c.loop-i.invariant.1 (omega arith) c.word_at.ensures.word)
-
-pub returns : goal.returns
-returns c =
-    record { loaded = load_done c.args.b.now c.args.words.now _ c.loop-i.i c.args.n c.loop-i.invariant.1 (omega arith) }

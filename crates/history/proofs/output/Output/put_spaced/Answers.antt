@@ -18,8 +18,3 @@ put_word-requires g c =
 pub loop-w-preserved : goal.loop-w-preserved
 loop-w-preserved g c =
     spaced_next c.args.self.now c.loop-w.self c.push.new.self c.put_word.new.self c.args.words.now c.loop-w.w-index c.loop-w-test.true c.loop-w.invariant c.push.ensures.puts c.put_word.ensures.puts
-
-pub returns : goal.returns
-returns g c =
-    let all = take_all c.loop-w.w-index c.args.words.now c.loop-w-test.false in
-    record { puts = rw all at c.loop-w.invariant }

@@ -3,9 +3,6 @@ use Rattle.history.specs.Line.{hex_word}
 use Rattle.history.proofs.LineLaws.{puts_none, puts_next, hex_digit, hex_done, length_hex_word}
 use Rattle.history.proofs.output.Output.put_word.Goals as goal
 
-pub loop-k-init : goal.loop-k-init
-loop-k-init g c = puts_none c.args.self.now
-
 pub loop-k-preserved : goal.loop-k-preserved
 loop-k-preserved g c =
     puts_next c.args.self.now c.loop-k.self c.push.new.self (hex_word c.args.w) c.loop-k.k _ (omega (arith, length_hex_word c.args.w, c.loop-k-test.true))

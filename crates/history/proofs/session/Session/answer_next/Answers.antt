@@ -16,12 +16,6 @@ returns-then-is_empty-clause-answered g c =
     let empty = ap length (sym same) ∙ eqb-true (length c.unread-unread.result.now) 0 (sym c.is_empty.ensures ∙ c.if-is_empty.true) in
     answered_nothing (state_of x false) x.input.bytes (view_of (lent x.stores.«data» x.stores.group x.answer)) x.output.bytes (omega (arith, x.answer_fits)) empty
 
-pub put_line-requires : goal.put_line-requires
-put_line-requires g c =
-    let x = c.args.self.now in
-    let y = c.call-called in
-    (search rules, (omega (arith, x.answer_fits), (y.ensures.few (omega (arith, x.answer_fits)), c.requires.room)))
-
 pub skip-requires : goal.skip-requires
 skip-requires g c =
     let x = c.args.self.now in
