@@ -9,6 +9,7 @@ use crate::cells::Place;
 use probe::count;
 
 // A word as an index.
+// Kept: `s[at] as usize` says the same, but each of its thirty uses, most of them within larger terms, would then carry the bound of a word in its proof.
 pub fn word(s: &[u32], at: usize) -> usize
     requires inside { at < length s.now }
     ensures same { result ≡ get_or s.now at 0 }
@@ -70,13 +71,15 @@ pub fn cell_after(s: &[u32], base: usize, n: usize, at: Place) -> Option<Place>
     })
 }
 
-// The cell after a cell, if there is one.
+// The cell after a cell, if there is one. Where there is none, the place after the cell is the end of all of them.
 pub fn next(s: &[u32], base: usize, n: usize, at: Place) -> Option<Place>
     requires directory { Directory base n s.now }
     requires there { There base s.now at.page at.cell }
     ensures there { IfSome result (λ p. There base s.now p.page p.cell) }
     ensures place { position_or_end base s.now result ≡ suc (position_in base s.now at.page at.cell) }
     ensures some { is_some result ≡ ltb (suc (position_in base s.now at.page at.cell)) (length (cells_in base s.now)) }
+    ensures stands { Stands base s.now at.page (at.cell + 1) }
+    ensures after { position_in base s.now at.page (at.cell + 1) ≡ suc (position_in base s.now at.page at.cell) }
 {
     cell_after(
         s,

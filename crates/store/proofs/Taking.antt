@@ -24,6 +24,9 @@ use Rattle.store.proofs.Reading.{position_held, cell_is, row_number}
 use Rattle.store.proofs.Marking.{word_position, word_there}
 use Rattle.store.proofs.Erasing.{last_is, not_last, payload_end, last_directory, last_position, last_there, erased_last, moved_directory, moved_position, moved_there, erased_moved}
 
+pub less_by : (q l x y : ℕ) → q ≡ x → l ≡ y → x < y → q < l
+less_by q l x y e f h = omega (arith, e, f)
+
 module _ (w n : ℕ) (parted : Bool) (s : List ℕ) (p i : ℕ) (valid : Valid w parted n s) (there : There w n s p i) where
   abbrev base : ℕ
   base = base_of w n

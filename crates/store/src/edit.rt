@@ -19,11 +19,10 @@ pub fn set_marks<const WIDTH: usize, const PARTS: usize>(
     s: &mut [u32],
     n: usize,
     at: Place,
-    marks: u32,
+    marks: u16,
 )
     requires valid { Valid WIDTH (ltb 0 PARTS) n s.old }
     requires there { There WIDTH n s.old at.page at.cell }
-    requires small { marks < 65536 }
     requires part { marks / 256 ≡ (get_or (held WIDTH n s.old) (position_of WIDTH n s.old at.page at.cell) no_row).marks / 256 }
     ensures left { Left WIDTH (ltb 0 PARTS) n (set (held WIDTH n s.old) (position_of WIDTH n s.old at.page at.cell)
         (marked marks (get_or (held WIDTH n s.old) (position_of WIDTH n s.old at.page at.cell) no_row))) s.old s.new }
@@ -32,8 +31,16 @@ pub fn set_marks<const WIDTH: usize, const PARTS: usize>(
 {
     let rows: Rows<WIDTH, PARTS> = Rows { words: s, units: n };
     let a = rows.cell_at(at);
-    let w = s[a + 2] % 65536 + 65536 * marks;
+    let w = s[a + 2] % 65536 + 65536 * (marks as u32);
     set_word(s, 6 + WIDTH * n, n, at, w);
+}
+
+// A row without its content.
+#[derive(Clone, Copy)]
+pub struct NewRow {
+    pub place: u32,
+    pub key: u32,
+    pub marks: u16,
 }
 
 // A row put in at a place, with zeros for its content, but for its part where the store has parts. The answer is where its content begins.
@@ -41,29 +48,27 @@ pub fn insert<const WIDTH: usize, const PARTS: usize>(
     s: &mut [u32],
     n: usize,
     at: Place,
-    place: u32,
-    key: u32,
-    marks: u32,
+    new: NewRow,
 ) -> usize
     requires valid { Valid WIDTH (ltb 0 PARTS) n s.old }
     requires stands { Stands WIDTH n s.old at.page at.cell }
     requires free { length (held WIDTH n s.old) < n }
-    requires small { marks < 65536 }
-    requires whole { ltb 0 PARTS ≡ false → marks < 256 }
-    requires order { Drops (map row_rank (insert_at (position_of WIDTH n s.old at.page at.cell) (fresh_row WIDTH place key marks) (held WIDTH n s.old))) }
-    ensures left { Left WIDTH (ltb 0 PARTS) n (insert_at (position_of WIDTH n s.old at.page at.cell) (fresh_row WIDTH place key marks) (held WIDTH n s.old))
+    requires whole { ltb 0 PARTS ≡ false → new.marks < 256 }
+    requires order { Drops (map row_rank (insert_at (position_of WIDTH n s.old at.page at.cell) (fresh_row WIDTH new.place new.key new.marks) (held WIDTH n s.old))) }
+    ensures left { Left WIDTH (ltb 0 PARTS) n (insert_at (position_of WIDTH n s.old at.page at.cell) (fresh_row WIDTH new.place new.key new.marks) (held WIDTH n s.old))
         s.old s.new }
     ensures content { result ≡ content_of WIDTH n s.new (position_of WIDTH n s.old at.page at.cell) }
 {
     let q = s[0];
     let to = 6 + WIDTH * (q as usize);
-    open_payload(s, to, place, key, marks / 256);
-    let new = CellWords {
-        place,
-        key,
+    let marks = new.marks as u32;
+    open_payload(s, to, new.place, new.key, marks / 256);
+    let cell = CellWords {
+        place: new.place,
+        key: new.key,
         word: q + 65536 * marks,
     };
-    put_cell(s, 6 + WIDTH * n, n, at, new);
+    put_cell(s, 6 + WIDTH * n, n, at, cell);
     to + 2
 }
 
@@ -79,25 +84,23 @@ fn erase_last<const WIDTH: usize, const PARTS: usize>(s: &mut [u32], n: usize, a
     take_cell(s, 6 + WIDTH * n, n, at);
 }
 
-// A row taken out whose payload is q, where another cell names the last payload, l: that one goes to the hole.
+// A row taken out, where the payload of another is the last one: that one goes to the hole.
 fn erase_moved<const WIDTH: usize, const PARTS: usize>(
     s: &mut [u32],
     n: usize,
     at: Place,
     other: Place,
-    q: u32,
-    l: u32,
 )
     requires valid { Valid WIDTH (ltb 0 PARTS) n s.old }
     requires there { There WIDTH n s.old at.page at.cell }
-    requires last { suc l ≡ get_or s.old 0 0 }
     requires among { There WIDTH n s.old other.page other.cell }
-    requires owns { get_or s.old (base_of WIDTH n + 97 * other.page + 1 + 3 * other.cell + 2) 0 % 65536 ≡ l }
-    requires named { q ≡ get_or s.old (base_of WIDTH n + 97 * at.page + 1 + 3 * at.cell + 2) 0 % 65536 }
-    requires less { q < l }
+    requires last { suc (get_or s.old (base_of WIDTH n + 97 * other.page + 1 + 3 * other.cell + 2) 0 % 65536) ≡ get_or s.old 0 0 }
+    requires less { get_or s.old (base_of WIDTH n + 97 * at.page + 1 + 3 * at.cell + 2) 0 % 65536 < get_or s.old (base_of WIDTH n + 97 * other.page + 1 + 3 * other.cell + 2) 0 % 65536 }
     ensures left { Left WIDTH (ltb 0 PARTS) n (erase_at (position_of WIDTH n s.old at.page at.cell) (held WIDTH n s.old)) s.old s.new }
 {
     let rows: Rows<WIDTH, PARTS> = Rows { words: s, units: n };
+    let q = rows.number_at(at);
+    let l = rows.number_at(other);
     let a = rows.cell_at(other);
     let w = s[a + 2] - (l - q);
     set_word(s, 6 + WIDTH * n, n, other, w);
@@ -122,5 +125,5 @@ pub fn erase<const WIDTH: usize, const PARTS: usize>(s: &mut [u32], n: usize, at
         return;
     }
     let other = owner_of::<WIDTH, PARTS>(s, n, l);
-    erase_moved::<WIDTH, PARTS>(s, n, at, other, q, l);
+    erase_moved::<WIDTH, PARTS>(s, n, at, other);
 }

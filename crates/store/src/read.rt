@@ -54,6 +54,8 @@ impl<'a, const WIDTH: usize, const PARTS: usize> Rows<'a, WIDTH, PARTS> {
         ensures there { IfSome result (λ p. There WIDTH self.entry.units self.entry.words.now p.page p.cell) }
         ensures place { position_or_end WIDTH self.entry.units self.entry.words.now result ≡ suc (position_of WIDTH self.entry.units self.entry.words.now at.page at.cell) }
         ensures some { is_some result ≡ ltb (suc (position_of WIDTH self.entry.units self.entry.words.now at.page at.cell)) (length (held WIDTH self.entry.units self.entry.words.now)) }
+        ensures stands { Stands WIDTH self.entry.units self.entry.words.now at.page (at.cell + 1) }
+        ensures after { position_of WIDTH self.entry.units self.entry.words.now at.page (at.cell + 1) ≡ suc (position_of WIDTH self.entry.units self.entry.words.now at.page at.cell) }
     {
         search::next(self.words, 6 + WIDTH * self.units, self.units, at)
     }
@@ -94,12 +96,11 @@ impl<'a, const WIDTH: usize, const PARTS: usize> Rows<'a, WIDTH, PARTS> {
     }
 
     #[inline]
-    pub fn marks_at(self, at: Place) -> u32
+    pub fn marks_at(self, at: Place) -> u16
         requires there { There WIDTH self.units self.words.now at.page at.cell }
         ensures marks { result ≡ (get_or (held WIDTH self.entry.units self.entry.words.now) (position_of WIDTH self.entry.units self.entry.words.now at.page at.cell) no_row).marks }
-        ensures small { result < 65536 }
     {
-        self.words[self.cell_at(at) + 2] / 65536
+        (self.words[self.cell_at(at) + 2] / 65536) as u16
     }
 
     // The number of the payload that a row's cell names.

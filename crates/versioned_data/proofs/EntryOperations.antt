@@ -11,7 +11,7 @@ use lib.ListN.{length, get_or, set, take, drop, length-drop, length-append}
 use lib.Seq.{ext_get_or, length-take-le}
 use borrow.Author.Tests.{eq-eqb, ne_eqb}
 use Rattle.number.specs.Words.{AreWords, digits}
-use Rattle.number.proofs.Digits.{words_take, words_drop, length_digits}
+use Rattle.number.proofs.Digits.{words_take, length_digits}
 use Rattle.delta.specs.Delta.{Delta, delta_width, delta_at, delta_ok, delta_words}
 use Rattle.delta.proofs.DeltaFormat.{ok_valid, delta_at_small, length_delta_words}
 use Rattle.types.specs.Refusal.{nothing_there, incarnation_not_higher, base_differs}
@@ -31,7 +31,6 @@ use Rattle.model.proofs.FineParts.{word_tell, words_every, delta_tell, value_len
 use Rattle.model.proofs.FineEntries.{base_cell, write_cell, delta_cell, estimate_cell}
 use Rattle.versioned_data.specs.Layout.{StoreRow, body_of, entry_of, rows_in, entries_in, row_ok, data_valid}
 use Rattle.versioned_data.specs.Found.{position_at, row_found, IsRow, Here, Gone, FoundIn, RowIn, found_row, PutOver, PutIn, Put}
-use Rattle.versioned_data.specs.Puts.{delta_entry}
 use Rattle.versioned_data.specs.Base.{over_base, base_at, base_ruling, may_put}
 use Rattle.versioned_data.specs.Edited.{Edited}
 use Rattle.std.specs.Prelude.{Result, Ok, Err}
@@ -216,14 +215,13 @@ module _ (p : ℕ) (above : 0 < p) where
   unfolding done
   write_fine incarnation v h f x = write_cell p above false incarnation v (word_tell incarnation h) f x
 
-  delta_fine : (w : List ℕ) (at : ℕ) → AreWords w → at + delta_width ≤ length w → delta_ok (take delta_width (drop at w)) ≡ true →
-      fine_cell p (done (delta (delta_at (take delta_width (drop at w))) none)).estimate (done (delta (delta_at (take delta_width (drop at w))) none)).cell ≡ true
+  delta_fine : (w : List ℕ) → AreWords w → delta_width ≤ length w → delta_ok (take delta_width w) ≡ true →
+      fine_cell p (done (delta (delta_at (take delta_width w)) none)).estimate (done (delta (delta_at (take delta_width w)) none)).cell ≡ true
   unfolding done fine_shortcut
-  delta_fine w at words fits ok =
-      let l : List ℕ = take delta_width (drop at w) in
+  delta_fine w words fits ok =
+      let l : List ℕ = take delta_width w in
       delta_cell p above false (delta_at l) none
-      (delta_tell (delta_at l)
-      (delta_at_small l (words_take delta_width (drop at w) (words_drop at w words)) (length-take-le delta_width (drop at w) (omega (arith, length-drop at w)))).limit (ok_valid l ok)) refl
+      (delta_tell (delta_at l) (delta_at_small l (words_take delta_width w words) (length-take-le delta_width w fits)).limit (ok_valid l ok)) refl
 
 -- ---- the row found, in the model's words
 
@@ -268,12 +266,11 @@ module _ (s : List ℕ) (v : data_valid s ≡ true) (k q p : ℕ) (big : k < 429
       edited_put s v k p big p_small f (found_at s k q p f place found) rule done_answer a r after g (entry_fine k p a big p_small fine) (put_at s k q p f a r after place w)
 
   module _ (above : 0 < p) where
-    pub delta_added : (w : List ℕ) (at : ℕ) → AreWords w → at + delta_width ≤ length w → delta_ok (take delta_width (drop at w)) ≡ true → (r : ℕ) (after : List ℕ) →
-        Put s k q f (delta_entry w at) r after → Edited s k p (add_delta (delta_at (take delta_width (drop at w)))) r after
-    unfolding delta_entry
-    delta_added w at words fits ok r after put =
-        put_edited (add_delta (delta_at (take delta_width (drop at w)))) (done (delta (delta_at (take delta_width (drop at w))) none)) r after (adds (delta_at (take delta_width (drop at w))) (find k p (entries_in s)))
-        (delta_fine p above w at words fits ok) put
+    pub delta_added : (w : List ℕ) → AreWords w → delta_width ≤ length w → delta_ok (take delta_width w) ≡ true → (r : ℕ) (after : List ℕ) →
+        Put s k q f (done (delta (delta_at (take delta_width w)) none)) r after → Edited s k p (add_delta (delta_at (take delta_width w))) r after
+    delta_added w words fits ok r after put =
+        put_edited (add_delta (delta_at (take delta_width w))) (done (delta (delta_at (take delta_width w)) none)) r after (adds (delta_at (take delta_width w)) (find k p (entries_in s)))
+        (delta_fine p above w words fits ok) put
 
     module _ (incarnation : ℕ) (w : List ℕ) (at : ℕ) (b : Bool) (may : b ≡ may_put incarnation (found_row s f)) where
       may_is : b ≡ may_write incarnation (find k p (entries_in s))
@@ -304,10 +301,10 @@ module _ (s : List ℕ) (v : data_valid s ≡ true) (k q p : ℕ) (big : k < 429
             edited_removed s v k p big p_small c.page c.cell (here_p c e) remove done_answer after (remove_some (find k p (entries_in s)) (entry_of (row_found s c.page c.cell)).held (here_p c e).entry)
             (erase_left s v n size c.page c.cell (here_p c e).row after l)
 
-        pub mark_done : (m : ℕ) → m ≡ (get_or (held 22 n s) (position_of 22 n s c.page c.cell) no_row).marks → (after : List ℕ) →
-            Left 22 false n (set (held 22 n s) (position_of 22 n s c.page c.cell) (marked (m % 4 + 4 + 8 * (m / 8)) (get_or (held 22 n s) (position_of 22 n s c.page c.cell) no_row))) s after →
+        pub mark_done : (m : ℕ) → m ≡ (get_or (held 22 n s) (position_of 22 n s c.page c.cell) no_row).marks → (x : ℕ) → x ≡ m % 4 + 4 + 8 * (m / 8) → (after : List ℕ) →
+            Left 22 false n (set (held 22 n s) (position_of 22 n s c.page c.cell) (marked x (get_or (held 22 n s) (position_of 22 n s c.page c.cell) no_row))) s after →
             Edited s k p mark_estimate 0 after
-        mark_done m marks after l =
+        mark_done m marks x made after l =
             let u : StoreRow = row_found s c.page c.cell in
             let t : IsRow s c.page c.cell = (here_p c e).row in
             let a : Entry = record { cell = (entry_of u).held.cell; estimate = true } in
@@ -315,7 +312,7 @@ module _ (s : List ℕ) (v : data_valid s ≡ true) (k q p : ℕ) (big : k < 429
             let is : m ≡ u.marks = marks ∙ ap (λ (w : StoreRow). w.marks) (row_is s v n size c.page c.cell t) in
             edited_over s v k p big p_small c.page c.cell (here_p c e) mark_estimate done_answer a after (mark_some (find k p (entries_in s)) (entry_of u).held (here_p c e).entry)
             (entry_fine k p a big p_small (estimate_cell p above (entry_of u).held.estimate true (entry_of u).held.cell (cell_at s v k p big p_small c.page c.cell (here_p c e))))
-            (put_marks s v n size c.page c.cell t (m % 4 + 4 + 8 * (m / 8)) after l a (ap (λ (j : ℕ). j % 4 + 4 + 8 * (j / 8)) is ∙ estimate_marks u ok)
+            (put_marks s v n size c.page c.cell t x after l a (made ∙ ap (λ (j : ℕ). j % 4 + 4 + 8 * (j / 8)) is ∙ estimate_marks u ok)
             (ap (λ (w : StoreRow). w.payload) (row_is s v n size c.page c.cell t) ∙ ok_payload u ok))
 
 -- A base's shifted index is 0.

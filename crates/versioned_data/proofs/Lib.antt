@@ -24,4 +24,5 @@ pub mod WalkFolds
 pub mod EntryLacks
 pub mod Passed
 pub mod ShortcutWords
+pub mod MarksTold
 pub mod MaterializeRulings

@@ -143,8 +143,8 @@ module _ (s : List ℕ) (v : data_valid s ≡ true) (n : ℕ) (size : n ≡ unit
   marks_part m h = omega (arith, ok_few u row_fine)
 
   -- the marks of an estimate
-  pub mark_few : (m : ℕ) → m ≡ (get_or (held 22 n s) (position_of 22 n s page i) no_row).marks → m % 4 + 4 + 8 * (m / 8) < 256
-  mark_few m e = omega (arith, ok_few u row_fine)
+  pub mark_few : (m : ℕ) → m ≡ (get_or (held 22 n s) (position_of 22 n s page i) no_row).marks → (x : ℕ) → x ≡ m % 4 + 4 + 8 * (m / 8) → x < 256
+  mark_few m e x made = omega (arith, made, ok_few u row_fine)
 
   -- the row as it is
   pub put_same : (e : Entry) → row_found s page i ≡ remade e (row_found s page i) → PutOver s page i e s

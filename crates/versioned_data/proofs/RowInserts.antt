@@ -35,14 +35,13 @@ use Rattle.model.specs.Rows.{find, row_at}
 use Rattle.model.specs.Data.{write, Entry, done}
 use Rattle.versioned_data.specs.Layout.{StoreRow, spot_of, marks_of, body_of, padded, row_of, entry_of, rows_in, row_ok, data_valid}
 use Rattle.versioned_data.specs.Found.{position_at, Gone, PutIn, lack_of_more}
-use Rattle.versioned_data.specs.Puts.{copied, write_put, delta_here, delta_entry}
 use Rattle.versioned_data.proofs.EntryRows.{ok_few}
 use Rattle.versioned_data.proofs.RowOrder.{entries_of}
 use Rattle.versioned_data.proofs.SpotPlaces.{over, under, Around, here, gone, around, find_told}
 use Rattle.versioned_data.proofs.EntriesHeld.{every_ok, spots_drop, entries_are, store_valid, rows_here}
 use Rattle.versioned_data.proofs.EntryRulings.{lacks_units}
 use Rattle.versioned_data.proofs.RowContents.{sets_within, sets_past, get_d_zeros, left_then, filled_left, sets_rewritten, same_rewritten}
-use Rattle.versioned_data.proofs.EntryWrites.{past_end, write_marks, body_write, here_body}
+use Rattle.versioned_data.proofs.EntryWrites.{past_end}
 
 -- ---- spots that fall go on to fall with one put in
 
@@ -242,17 +241,3 @@ module _ (s : List ℕ) (v : data_valid s ≡ true) (n : ℕ) (size : n ≡ unit
 
             final : Left 22 false (units_in (length s)) (insert_at (position_at s page i) (row_of (row_at k p e)) (rows_in s)) s y
             final = place_left e y both
-
-        pub write_in_lem : m ≡ 0 → (incarnation : ℕ) (q : List ℕ) (at : ℕ) → at + value_width ≤ length q → (y : List ℕ) → y ≡ write_put b incarnation q at x →
-            PutIn s k p page i (done (write incarnation (value_at at q))) 0 y
-        unfolding write_put
-        write_in_lem z incarnation q at fits y put =
-            in_put (incarnation ∷ value_at at q) y put (omega (arith, length_value_at q at fits)) (done (write incarnation (value_at at q)))
-            (z ∙ sym (write_marks incarnation (value_at at q))) (sym (body_write incarnation (value_at at q)))
-
-        pub delta_in_lem : (q : List ℕ) (at : ℕ) → m ≡ marks_of (delta_entry q at) → AreWords q → at + delta_width ≤ length q → delta_here q at ≡ true →
-            (y : List ℕ) → y ≡ copied b q at 16 x → PutIn s k p page i (delta_entry q at) 0 y
-        unfolding copied
-        delta_in_lem q at z words fits ok y put =
-            in_put (take 16 (drop at q)) y put (omega (arith, length-take-le 16 (drop at q) (omega (arith, drop_long q at fits)))) (delta_entry q at) z
-            (here_body q at words fits ok)

@@ -101,8 +101,8 @@ module _ (s : List ℕ) (v : data_valid s ≡ true) (n : ℕ) (size : n ≡ unit
   shortcut_none z =
       put_same s v n size page i t (shortcut_entry w u) (row_kept w u (found_fine s v n size page i t) (ap (λ (x : ℕ). x % 4) (sym marks_are) ∙ z))
 
-  pub shortcut_few : 2 + 4 * (m / 4) < 256
-  shortcut_few = omega (arith, marks_are, ok_few u (found_fine s v n size page i t))
+  pub shortcut_few : (z : ℕ) → z ≡ 2 + 4 * (m / 4) → z < 256
+  shortcut_few z made = omega (arith, made, marks_are, ok_few u (found_fine s v n size page i t))
 
   module _ (formed : m % 4 ≡ 0 → ⊥) (b : ℕ) (content : b ≡ content_of 22 n s (position_of 22 n s page i)) (x : List ℕ) (put : x ≡ sets s (b + 16) (digits 4 w)) where
     form : form_of (entry_of u).held.cell ≡ 0 → ⊥
@@ -126,11 +126,11 @@ module _ (s : List ℕ) (v : data_valid s ≡ true) (n : ℕ) (size : n ≡ unit
             ∙ sets_within (digits 4 w) s (b + 16) (j - 16) (omega (arith, content, row_room s v n size page i t, length_digits 4 w)) (omega (arith, length_digits 4 w))
             ∙ last_words w (entry_of u).held.cell form j (omega arith)
 
-    pub shortcut_put : (y : List ℕ) →
-        Left 22 false n (set (held 22 n x) (position_of 22 n x page i) (marked (2 + 4 * (m / 4)) (get_or (held 22 n x) (position_of 22 n x page i) no_row))) x y →
+    pub shortcut_put : (z : ℕ) → z ≡ 2 + 4 * (m / 4) → (y : List ℕ) →
+        Left 22 false n (set (held 22 n x) (position_of 22 n x page i) (marked z (get_or (held 22 n x) (position_of 22 n x page i) no_row))) x y →
         PutOver s page i (shortcut_entry w (row_found s page i)) y
     unfolding shortcut_entry
-    shortcut_put y left =
-        put_both s v n size page i t x shortcut_rewritten (body_of (with_shortcut w (entry_of u).held.cell)) (body_twenty w (entry_of u).held.cell form) words (2 + 4 * (m / 4)) y left
+    shortcut_put z made y left =
+        put_both s v n size page i t x shortcut_rewritten (body_of (with_shortcut w (entry_of u).held.cell)) (body_twenty w (entry_of u).held.cell form) words z y left
         (record { cell = with_shortcut w (entry_of u).held.cell; estimate = (entry_of u).held.estimate })
-        (ap (λ (k : ℕ). 2 + 4 * (k / 4)) (marks_are ∙ ok_marks u (found_fine s v n size page i t)) ∙ delta_marks_lem w (entry_of u).held.estimate (entry_of u).held.cell form) refl
+        (made ∙ ap (λ (k : ℕ). 2 + 4 * (k / 4)) (marks_are ∙ ok_marks u (found_fine s v n size page i t)) ∙ delta_marks_lem w (entry_of u).held.estimate (entry_of u).held.cell form) refl

@@ -1,4 +1,5 @@
 pub mod Layout
+pub mod Marks
 pub mod Left
 pub mod Found
 pub mod Puts

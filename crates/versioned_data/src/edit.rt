@@ -12,9 +12,9 @@ ghost use Rattle.versioned_data.specs.Edited.{Edited};
 
 use crate::base::{Base, over_base};
 use crate::find::find_entry;
-use crate::layout;
 use crate::layout::{DataRows, PARTS, WIDTH};
-use crate::put::{put_delta, put_write};
+use crate::marks::Marks;
+use crate::put::{Added, Write, put};
 use directory::cells::Place;
 use store::edit::{erase, set_marks};
 use store::read::Rows;
@@ -34,8 +34,8 @@ fn may_write(s: &[u32], found: Result<Place, Place>, incarnation: u32) -> bool
         Ok(row) => {
             let n = units(s);
             let rows: DataRows = Rows { words: s, units: n };
-            let m = rows.marks_at(row);
-            if m % 4 != layout::WRITE {
+            let marks = Marks(rows.marks_at(row));
+            if !marks.is_write() {
                 return true;
             }
             let b = rows.content_at(row);
@@ -45,11 +45,11 @@ fn may_write(s: &[u32], found: Result<Place, Place>, incarnation: u32) -> bool
 }
 
 // What a base value is to do where it was looked for.
-fn base_at(s: &[u32], found: Result<Place, Place>, t: &[u32], at: usize) -> Base
+fn base_at(s: &[u32], found: Result<Place, Place>, value: &[u32]) -> Base
     requires valid { data_valid s.now ≡ true }
     requires row { RowIn s.now found }
-    requires inside { at + value_width ≤ length t.now }
-    ensures base { result ≡ base_at (value_at at t.now) (found_row s.now found) }
+    requires inside { value_width ≤ length value.now }
+    ensures base { result ≡ base_at (value_at 0 value.now) (found_row s.now found) }
 {
     match found {
         Err(_) => Base::Set,
@@ -58,29 +58,23 @@ fn base_at(s: &[u32], found: Result<Place, Place>, t: &[u32], at: usize) -> Base
             let rows: DataRows = Rows { words: s, units: n };
             let b = rows.content_at(row);
             let existing = ValueWithLayout::read(s, b + 1);
-            let value = ValueWithLayout::read(t, at);
+            let value = ValueWithLayout::read(value, 0);
             over_base(value, existing)
         }
     }
 }
 
 // A delta always replaces what is there.
-pub fn add_delta(
-    s: &mut [u32],
-    key: u32,
-    txn_idx: TxnIndex,
-    t: &[u32],
-    at: usize,
-) -> Result<(), Refusal>
+pub fn add_delta(s: &mut [u32], key: u32, txn_idx: TxnIndex, delta: &[u32]) -> Result<(), Refusal>
     requires valid { data_valid s.old ≡ true }
     requires served { txn_idx < index_bound }
-    requires inside { at + delta_width ≤ length t.now }
-    requires delta { delta_ok (take delta_width (drop at t.now)) ≡ true }
-    ensures edited { Edited s.old key (suc txn_idx) (rule.add_delta (delta_at (take delta_width (drop at t.now)))) (result_number result) s.new }
+    requires inside { delta_width ≤ length delta.now }
+    requires delta { delta_ok (take delta_width delta.now) ≡ true }
+    ensures edited { Edited s.old key (suc txn_idx) (rule.add_delta (delta_at (take delta_width delta.now))) (result_number result) s.new }
 {
     let place = ShiftedTxnIndex::new(txn_idx);
     let found = find_entry(s, key, place);
-    put_delta(s, found, key, place.word(), t, at)
+    put(s, found, key, place.word(), Added { delta })
 }
 
 // An entry that is not there is refused, where the Rust panics.
@@ -95,9 +89,8 @@ pub fn mark_estimate(s: &mut [u32], key: u32, txn_idx: TxnIndex) -> Result<(), R
         Ok(row) => {
             let n = units(s);
             let rows: DataRows = Rows { words: s, units: n };
-            let m = rows.marks_at(row);
-            let marks = m % 4 + layout::ESTIMATE + 8 * (m / 8);
-            set_marks::<WIDTH, PARTS>(s, n, row, marks);
+            let marks = Marks(rows.marks_at(row)).estimated();
+            set_marks::<WIDTH, PARTS>(s, n, row, marks.0);
             Ok(())
         }
     }
@@ -121,18 +114,24 @@ pub fn remove(s: &mut [u32], key: u32, txn_idx: TxnIndex) -> Result<(), Refusal>
 }
 
 // For a base value, incarnation is irrelevant, and is always set to 0.
-pub fn set_base_value(s: &mut [u32], key: u32, t: &[u32], at: usize) -> Result<(), Refusal>
+pub fn set_base_value(s: &mut [u32], key: u32, value: &[u32]) -> Result<(), Refusal>
     requires valid { data_valid s.old ≡ true }
-    requires inside { at + value_width ≤ length t.now }
-    requires value { value_ok (value_at at t.now) ≡ true }
-    ensures edited { Edited s.old key 0 (rule.set_base_value (value_at at t.now)) (result_number result) s.new }
+    requires inside { value_width ≤ length value.now }
+    requires value { value_ok (value_at 0 value.now) ≡ true }
+    ensures edited { Edited s.old key 0 (rule.set_base_value (value_at 0 value.now)) (result_number result) s.new }
 {
     let place = ShiftedTxnIndex::zero_idx();
     let found = find_entry(s, key, place);
-    match base_at(s, found, t, at) {
+    match base_at(s, found, value) {
         Base::Keep => Ok(()),
         Base::Differs => Err(Refusal::BaseDiffers),
-        Base::Set => put_write(s, found, key, place.word(), 0, t, at),
+        Base::Set => {
+            let content = Write {
+                incarnation: 0,
+                value,
+            };
+            put(s, found, key, place.word(), content)
+        }
     }
 }
 
@@ -142,20 +141,19 @@ pub fn write(
     key: u32,
     txn_idx: TxnIndex,
     incarnation: Incarnation,
-    t: &[u32],
-    at: usize,
+    value: &[u32],
 ) -> Result<(), Refusal>
     requires valid { data_valid s.old ≡ true }
     requires served { txn_idx < index_bound }
-    requires inside { at + value_width ≤ length t.now }
-    requires value { value_ok (value_at at t.now) ≡ true }
-    requires exchanged { is_exchanged (value_at at t.now) ≡ true }
-    ensures edited { Edited s.old key (suc txn_idx) (rule.write_value incarnation (value_at at t.now)) (result_number result) s.new }
+    requires inside { value_width ≤ length value.now }
+    requires value { value_ok (value_at 0 value.now) ≡ true }
+    requires exchanged { is_exchanged (value_at 0 value.now) ≡ true }
+    ensures edited { Edited s.old key (suc txn_idx) (rule.write_value incarnation (value_at 0 value.now)) (result_number result) s.new }
 {
     let place = ShiftedTxnIndex::new(txn_idx);
     let found = find_entry(s, key, place);
     if !may_write(s, found, incarnation) {
         return Err(Refusal::IncarnationNotHigher);
     }
-    put_write(s, found, key, place.word(), incarnation, t, at)
+    put(s, found, key, place.word(), Write { incarnation, value })
 }

@@ -8,8 +8,8 @@ ghost use Rattle.versioned_data.specs.Layout.{entries_in, data_valid};
 ghost use Rattle.versioned_data.specs.Output.{output_of};
 
 use crate::find::spot;
-use crate::layout;
 use crate::layout::DataRows;
+use crate::marks::{Marks, WRITE};
 use crate::walk::Entries;
 use store::read::Rows;
 use types::index::{ShiftedTxnIndex, TxnIndex};
@@ -64,7 +64,7 @@ pub fn first_write(s: &[u32], key: u32, txn_idx: TxnIndex) -> Option<First>
     let entries = Entries { rows };
     let p = rows.find_place(y);
     let met = entries.of_key(key, rows.cell_after(p))?;
-    if rows.marks_at(met) != layout::WRITE {
+    if Marks(rows.marks_at(met)) != WRITE {
         return None;
     }
     Some(First {

@@ -6,6 +6,7 @@ pub mod edit;
 pub mod fetch;
 pub mod find;
 mod layout;
+mod marks;
 pub mod materialize;
 mod put;
 pub mod scan;

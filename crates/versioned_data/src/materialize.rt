@@ -12,6 +12,7 @@ use crate::fetch::read_at;
 use crate::find::find_entry;
 use crate::layout;
 use crate::layout::{DataRows, PARTS, WIDTH};
+use crate::marks::Marks;
 use delta::DeltaOp;
 use directory::cells::Place;
 use number::Number;
@@ -30,14 +31,13 @@ fn record_delta_shortcut(s: &mut [u32], row: Place, v: Number)
 {
     let n = units(s);
     let rows: DataRows = Rows { words: s, units: n };
-    let m = rows.marks_at(row);
-    if m % 4 == layout::WRITE {
+    let marks = Marks(rows.marks_at(row));
+    if marks.is_write() {
         return;
     }
     let b = rows.content_at(row);
     number::words::write(s, b + layout::SHORTCUT, v);
-    let marks = layout::DELTA_WITH_SHORTCUT + 4 * (m / 4);
-    set_marks::<WIDTH, PARTS>(s, n, row, marks);
+    set_marks::<WIDTH, PARTS>(s, n, row, marks.with_shortcut().0);
 }
 
 // An entry that is not there is refused, where the Rust panics.

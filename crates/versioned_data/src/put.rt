@@ -1,88 +1,108 @@
 // An entry is put where it was looked for: its content's words, and the marks of its row.
-ghost use Rattle.std.specs.Prelude.{◌≡◌, true, ◌+◌, ◌≤◌, ◌<◌, length};
-ghost use Rattle.delta.specs.Delta.{delta_width};
+ghost use Rattle.std.specs.Prelude.{◌≡◌, true, ◌+◌, ◌≤◌, ◌<◌, length, take};
+ghost use Rattle.std.proofs.lemmas.List.Edits.{sets};
+ghost use Rattle.std.proofs.Math.Option.{none};
+ghost use Rattle.number.specs.Words.{AreWords};
+ghost use Rattle.delta.specs.Delta.{delta_width, delta_at, delta_ok};
 ghost use Rattle.types.specs.Refusal.{result_number};
 ghost use Rattle.types.specs.Units.{units_in};
 ghost use Rattle.types.specs.Value.{value_at, value_width};
 ghost use Rattle.model.specs.Data as rule;
-ghost use Rattle.versioned_data.specs.Layout.{marks_of, data_valid};
+ghost use Rattle.model.specs.Data.{Entry};
+ghost use Rattle.versioned_data.specs.Layout.{content_width, form_of, marks_of, body_of, data_valid};
 ghost use Rattle.versioned_data.specs.Found.{IsRow, Gone, FoundIn, PutOver, PutIn, Put, lack_of_more};
-ghost use Rattle.versioned_data.specs.Puts.{copied, write_put, delta_here, delta_entry};
+ghost use Rattle.versioned_data.specs.Puts.{body_width};
 
 use crate::layout;
 use crate::layout::{DataRows, PARTS, WIDTH};
+use crate::marks::{Marks, WRITE};
 use directory::cells::Place;
 use moves::clear;
-use store::edit::{insert, set_marks};
+use store::edit::{NewRow, insert, set_marks};
 use store::read::Rows;
 use types::refusal::Refusal;
 use types::units::{enough, units};
 use types::value::VALUE_WIDTH;
 
-// m words of a request, from `at` on.
-fn put_words(s: &mut [u32], b: usize, t: &[u32], at: usize, m: usize)
-    requires room { b + m ≤ length s.old }
-    requires inside { at + m ≤ length t.now }
-    ensures put { s.new ≡ copied b t.now at m s.old }
-{
-    s[b..b + m].copy_from_slice(&t[at..at + m]);
+// What may be put into a row: an entry, by its marks and the words of its cell.
+pub trait Content: Copy {
+    ghost entry: { Self → Entry };
+
+    fn marks(self) -> Marks
+        ensures marks { result.0 ≡ marks_of (entry self) }
+        ensures small { result.0 < 256 };
+
+    // Its words put from word b on.
+    fn write(self, s: &mut [u32], b: usize)
+        requires room { b + content_width ≤ length s.old }
+        ensures put { s.new ≡ sets s.old b (body_of (entry self).cell) }
+        ensures long { length (body_of (entry self).cell) ≡ body_width (form_of (entry self).cell) };
 }
 
-// The words of a write: its incarnation, and the value at `at` of a request's words.
-fn put_value(s: &mut [u32], b: usize, incarnation: u32, t: &[u32], at: usize)
-    requires room { b + 8 ≤ length s.old }
-    requires inside { at + value_width ≤ length t.now }
-    ensures put { s.new ≡ write_put b incarnation t.now at s.old }
-{
-    s[b] = incarnation;
-    put_words(s, b + 1, t, at, VALUE_WIDTH);
+// A write: its incarnation, and the words of its value.
+#[derive(Clone, Copy)]
+pub struct Write<'a> {
+    pub incarnation: u32,
+    pub value: &'a [u32],
+    ghost inside: { value_width ≤ length value.now },
 }
 
-// A write over the entry of a row. The longer content of another form is cleared first.
-pub fn write_over(s: &mut [u32], row: Place, incarnation: u32, t: &[u32], at: usize)
+impl<'a> Content for Write<'a> {
+    ghost entry = { λ w. rule.done (rule.write w.incarnation (value_at 0 w.value.now)) };
+
+    #[inline]
+    fn marks(self) -> Marks {
+        WRITE
+    }
+
+    #[inline]
+    fn write(self, s: &mut [u32], b: usize) {
+        s[b] = self.incarnation;
+        s[b + 1..b + 1 + VALUE_WIDTH].copy_from_slice(&self.value[..VALUE_WIDTH]);
+    }
+}
+
+// A delta's words, of which the last is its sign.
+#[derive(Clone, Copy)]
+pub struct Added<'a> {
+    pub delta: &'a [u32],
+    ghost inside: { delta_width ≤ length delta.now },
+    ghost words: { AreWords delta.now },
+    ghost valid: { delta_ok (take delta_width delta.now) ≡ true },
+}
+
+impl<'a> Content for Added<'a> {
+    ghost entry = { λ d. rule.done (rule.delta (delta_at (take delta_width d.delta.now)) none) };
+
+    #[inline]
+    fn marks(self) -> Marks {
+        Marks::of_delta(self.delta[layout::SHORTCUT])
+    }
+
+    #[inline]
+    fn write(self, s: &mut [u32], b: usize) {
+        s[b..b + layout::SHORTCUT].copy_from_slice(&self.delta[..layout::SHORTCUT]);
+    }
+}
+
+// Content put over that of a row. A content of other marks may be longer, and is cleared first.
+fn put_over<C: Content>(s: &mut [u32], row: Place, content: C)
     requires valid { data_valid s.old ≡ true }
     requires row { IsRow s.old row.page row.cell }
-    requires inside { at + value_width ≤ length t.now }
-    ensures put { PutOver s.old row.page row.cell (rule.done (rule.write incarnation (value_at at t.now))) s.new }
+    ensures put { PutOver s.old row.page row.cell (C.entry content) s.new }
 {
     let n = units(s);
+    let new = content.marks();
     let rows: DataRows = Rows { words: s, units: n };
-    let m = rows.marks_at(row);
+    let m = Marks(rows.marks_at(row));
     let b = rows.content_at(row);
-    if m == layout::WRITE {
-        put_value(s, b, incarnation, t, at);
+    if m == new {
+        content.write(s, b);
         return;
     }
     clear(s, b, layout::CONTENT);
-    put_value(s, b, incarnation, t, at);
-    set_marks::<WIDTH, PARTS>(s, n, row, layout::WRITE);
-}
-
-// The marks of a delta of a request's words: its sign is the last of them.
-fn delta_marks(t: &[u32], at: usize) -> u32
-    requires inside { at + delta_width ≤ length t.now }
-    requires delta { delta_here t.now at ≡ true }
-    ensures marks { result ≡ marks_of (delta_entry t.now at) }
-    ensures small { result < 256 }
-{
-    layout::DELTA_ALONE + layout::SUBTRACTS * t[at + layout::SHORTCUT]
-}
-
-// A delta over the entry of a row.
-pub fn delta_over(s: &mut [u32], row: Place, t: &[u32], at: usize)
-    requires valid { data_valid s.old ≡ true }
-    requires row { IsRow s.old row.page row.cell }
-    requires inside { at + delta_width ≤ length t.now }
-    requires delta { delta_here t.now at ≡ true }
-    ensures put { PutOver s.old row.page row.cell (delta_entry t.now at) s.new }
-{
-    let n = units(s);
-    let m = delta_marks(t, at);
-    let rows: DataRows = Rows { words: s, units: n };
-    let b = rows.content_at(row);
-    put_words(s, b, t, at, layout::SHORTCUT);
-    clear(s, b + layout::SHORTCUT, 4);
-    set_marks::<WIDTH, PARTS>(s, n, row, m);
+    content.write(s, b);
+    set_marks::<WIDTH, PARTS>(s, n, row, new.0);
 }
 
 // Whether a unit is free for one row more.
@@ -98,99 +118,44 @@ fn enough_for_more(s: &[u32], n: usize) -> Result<(), Refusal>
     enough(rows.units_held() + 1, n)
 }
 
-// A write in a row of its own, unless units lack.
-pub fn write_in(
+// Content in a row of its own, unless units lack.
+fn put_in<C: Content>(
     s: &mut [u32],
     key: u32,
     place: u32,
     row: Place,
-    incarnation: u32,
-    t: &[u32],
-    at: usize,
+    content: C,
 ) -> Result<(), Refusal>
     requires valid { data_valid s.old ≡ true }
     requires gone { Gone s.old key place row.page row.cell }
-    requires inside { at + value_width ≤ length t.now }
-    ensures put { PutIn s.old key place row.page row.cell (rule.done (rule.write incarnation (value_at at t.now))) (result_number result) s.new }
-{
-    let n = units(s);
-    // Kept: a test and no `?`. Three must-fail edits turn it round, and their goals keep its name: a rule of the project.
-    let enough = enough_for_more(s, n);
-    if !enough.is_ok() {
-        return enough;
-    }
-    let b = insert::<WIDTH, PARTS>(s, n, row, place, key, layout::WRITE);
-    put_value(s, b, incarnation, t, at);
-    Ok(())
-}
-
-// A delta in a row of its own, unless units lack.
-pub fn delta_in(
-    s: &mut [u32],
-    key: u32,
-    place: u32,
-    row: Place,
-    t: &[u32],
-    at: usize,
-) -> Result<(), Refusal>
-    requires valid { data_valid s.old ≡ true }
-    requires gone { Gone s.old key place row.page row.cell }
-    requires inside { at + delta_width ≤ length t.now }
-    requires delta { delta_here t.now at ≡ true }
-    ensures put { PutIn s.old key place row.page row.cell (delta_entry t.now at) (result_number result) s.new }
+    ensures put { PutIn s.old key place row.page row.cell (C.entry content) (result_number result) s.new }
 {
     let n = units(s);
     enough_for_more(s, n)?;
-    let m = delta_marks(t, at);
-    let b = insert::<WIDTH, PARTS>(s, n, row, place, key, m);
-    put_words(s, b, t, at, layout::SHORTCUT);
+    let marks = content.marks().0;
+    let new = NewRow { place, key, marks };
+    let b = insert::<WIDTH, PARTS>(s, n, row, new);
+    content.write(s, b);
     Ok(())
 }
 
-// A write put where its entry was looked for. Only an insertion counts the units held.
-pub fn put_write(
+// Content put where its entry was looked for. Only an insertion counts the units held.
+pub fn put<C: Content>(
     s: &mut [u32],
     found: Result<Place, Place>,
     key: u32,
     place: u32,
-    incarnation: u32,
-    t: &[u32],
-    at: usize,
+    content: C,
 ) -> Result<(), Refusal>
     requires valid { data_valid s.old ≡ true }
     requires found { FoundIn s.old key place found }
-    requires inside { at + value_width ≤ length t.now }
-    ensures put { Put s.old key place found (rule.done (rule.write incarnation (value_at at t.now))) (result_number result) s.new }
+    ensures put { Put s.old key place found (C.entry content) (result_number result) s.new }
 {
     match found {
         Ok(row) => {
-            write_over(s, row, incarnation, t, at);
+            put_over(s, row, content);
             Ok(())
         }
-        Err(row) => write_in(s, key, place, row, incarnation, t, at),
-    }
-}
-
-// A delta put where its entry was looked for.
-pub fn put_delta(
-    s: &mut [u32],
-    found: Result<Place, Place>,
-    key: u32,
-    place: u32,
-    t: &[u32],
-    at: usize,
-) -> Result<(), Refusal>
-    requires valid { data_valid s.old ≡ true }
-    requires found { FoundIn s.old key place found }
-    requires inside { at + delta_width ≤ length t.now }
-    requires delta { delta_here t.now at ≡ true }
-    ensures put { Put s.old key place found (delta_entry t.now at) (result_number result) s.new }
-{
-    match found {
-        Ok(row) => {
-            delta_over(s, row, t, at);
-            Ok(())
-        }
-        Err(row) => delta_in(s, key, place, row, t, at),
+        Err(row) => put_in(s, key, place, row, content),
     }
 }

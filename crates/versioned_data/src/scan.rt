@@ -8,6 +8,7 @@ ghost use Rattle.versioned_data.specs.Rows.{rows_of, position_in};
 ghost use Rattle.versioned_data.specs.Test.{side_test, write_test, delta_test, marks_test};
 
 use crate::layout::{DataRows, PARTS, WIDTH};
+use crate::marks::{Form, Marks, WRITE};
 use crate::walk::read_op;
 use directory::cells::Place;
 use moves::all_zero;
@@ -17,9 +18,9 @@ use types::units::units;
 use types::value::{ValueWithLayout, value_ok};
 
 // Whether the write at b may stand at a place: at the base, incarnation 0 and done; above it, exchanged.
-fn side_ok(s: &[u32], b: usize, place: u32, marks: u32) -> bool
+fn side_ok(s: &[u32], b: usize, place: u32, marks: Marks) -> bool
     requires inside { b + content_width ≤ length s.now }
-    ensures side { result ≡ side_test place marks (take content_width (drop b s.now)) }
+    ensures side { result ≡ side_test place marks.0 (take content_width (drop b s.now)) }
 {
     if place != 0 {
         return ValueWithLayout::read(s, b + 1).is_exchanged();
@@ -27,13 +28,13 @@ fn side_ok(s: &[u32], b: usize, place: u32, marks: u32) -> bool
     if s[b] != 0 {
         return false;
     }
-    marks == 0
+    marks == WRITE
 }
 
 // Whether a write is at b, with zeros after it.
-fn write_ok(s: &[u32], b: usize, place: u32, marks: u32) -> bool
+fn write_ok(s: &[u32], b: usize, place: u32, marks: Marks) -> bool
     requires inside { b + content_width ≤ length s.now }
-    ensures write { result ≡ write_test place marks (take content_width (drop b s.now)) }
+    ensures write { result ≡ write_test place marks.0 (take content_width (drop b s.now)) }
 {
     if !value_ok(s, b + 1) {
         return false;
@@ -45,37 +46,40 @@ fn write_ok(s: &[u32], b: usize, place: u32, marks: u32) -> bool
 }
 
 // Whether a delta above the base is at b, with zeros after it where it has no shortcut.
-fn delta_ok(s: &[u32], b: usize, place: u32, marks: u32) -> bool
+fn delta_ok(s: &[u32], b: usize, place: u32, marks: Marks) -> bool
     requires inside { b + content_width ≤ length s.now }
-    ensures delta { result ≡ delta_test place marks (take content_width (drop b s.now)) }
+    ensures delta { result ≡ delta_test place marks.0 (take content_width (drop b s.now)) }
 {
     if place == 0 {
         return false;
     }
-    if !read_op(s, b, marks / 8).is_valid() {
+    if !read_op(s, b, marks.sign()).is_valid() {
         return false;
     }
-    if marks % 4 == 1 {
+    if marks.is_delta_alone() {
         return all_zero(s, b + 16, b + 20);
     }
     true
 }
 
 // Whether the content at b is one of these marks.
-fn content_ok(s: &[u32], b: usize, place: u32, marks: u32) -> bool
+fn content_ok(s: &[u32], b: usize, place: u32, marks: Marks) -> bool
     requires inside { b + content_width ≤ length s.now }
-    ensures content { result ≡ marks_test place marks (take content_width (drop b s.now)) }
+    ensures content { result ≡ marks_test place marks.0 (take content_width (drop b s.now)) }
 {
-    if marks % 4 == 0 {
-        if 8 <= marks {
-            return false;
-        }
-        return write_ok(s, b, place, marks);
-    }
-    if marks % 4 == 3 {
+    let Some(form) = marks.form() else {
         return false;
+    };
+    match form {
+        Form::Write => {
+            if marks.sign() != 0 {
+                return false;
+            }
+            write_ok(s, b, place, marks)
+        }
+        Form::Delta => delta_ok(s, b, place, marks),
+        Form::DeltaWithShortcut => delta_ok(s, b, place, marks),
     }
-    delta_ok(s, b, place, marks)
 }
 
 // Whether a row is that of a fine entry.
@@ -88,7 +92,7 @@ fn row_ok(s: &[u32], n: usize, at: Place) -> bool
     let rows: DataRows = Rows { words: s, units: n };
     let b = rows.content_at(at);
     let place = rows.place_at(at);
-    content_ok(s, b, place, rows.marks_at(at))
+    content_ok(s, b, place, Marks(rows.marks_at(at)))
 }
 
 // Whether each row is, one after the other.

@@ -16,6 +16,7 @@ ghost use Rattle.versioned_data.specs.Step.{has_key, deltas_in};
 ghost use Rattle.versioned_data.specs.Output.{output_of};
 
 use crate::layout::DataRows;
+use crate::marks::{Marks, WRITE};
 use delta::{Accumulator, DeltaOp, ValidDelta};
 use directory::cells::Place;
 use number::Number;
@@ -155,13 +156,13 @@ impl<'a> Entries<'a> {
         requires stops { (row_of_place self.rows.units self.rows.words.now at).marks % 8 ≡ 1 → ⊥ }
         ensures found { result ≡ output_of (walk (exactly acc) (entry_of (row_of_place self.entry.rows.units self.entry.rows.words.now at) ∷ [])) }
     {
-        let marks = self.rows.marks_at(at);
+        let marks = Marks(self.rows.marks_at(at));
         let b = self.rows.content_at(at);
         let place = ShiftedTxnIndex::from_word(self.rows.place_at(at));
-        if marks / 4 % 2 == 1 {
+        if marks.is_estimate() {
             return Ok(dependency(place));
         }
-        if marks == 0 {
+        if marks == WRITE {
             return at_write(self.rows.words, b, place, acc);
         }
         Ok(onto(acc, number::words::read(self.rows.words, b + 16)))
@@ -173,9 +174,9 @@ impl<'a> Entries<'a> {
         requires delta { (row_of_place self.rows.units self.rows.words.now at).marks % 8 ≡ 1 }
         ensures gathered { result ≡ accumulator_of (accumulate (exactly acc) (delta_in (row_of_place self.entry.rows.units self.entry.rows.words.now at))) }
     {
-        let marks = self.rows.marks_at(at);
+        let marks = Marks(self.rows.marks_at(at));
         let b = self.rows.content_at(at);
-        let earlier = read_op(self.rows.words, b, marks / 8);
+        let earlier = read_op(self.rows.words, b, marks.sign());
         acc.accumulate(ValidDelta::new(earlier))
     }
 
@@ -190,7 +191,7 @@ impl<'a> Entries<'a> {
         let Some(p) = self.of_key(key, Some(Place { page, cell })) else {
             return met;
         };
-        if self.rows.marks_at(p) % 8 != 1 {
+        if !Marks(self.rows.marks_at(p)).goes_on() {
             return met;
         }
         let met = met + 1;
@@ -232,7 +233,7 @@ impl<'a> Entries<'a> {
         let Some(row) = self.of_key(key, at) else {
             return Ok(MVDataOutput::Uninitialized);
         };
-        if self.rows.marks_at(row) != 0 {
+        if Marks(self.rows.marks_at(row)) != WRITE {
             return self.walk(key, at);
         }
         let b = self.rows.content_at(row);

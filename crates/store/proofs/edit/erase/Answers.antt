@@ -1,6 +1,7 @@
 -- `store::edit::erase` meets its contract: the cell that names the last payload is found by what that payload carries.
 -- Assumes nothing.
-use mathlib.Core.Path.{sym, ◌∙◌}
+use mathlib.Core.Path.{sym, ap, ◌∙◌}
+use Prim.Native.Nat.{suc}
 use Rattle.store.proofs.Taking.{one_held, other_less}
 use native.Mathlib.Omega.{arith}
 use Rattle.store.proofs.edit.erase.Goals as goal
@@ -26,10 +27,7 @@ erase_moved-requires g c =
     record {
       valid = c.requires.valid;
       there = c.requires.there;
-      last = one_held _ _ _ _ _ _ c.requires.valid c.requires.there;
       among = c.owner_of-other.ensures.there;
-      owns = c.owner_of-other.ensures.owns;
-      named = c.number_at-q.ensures.word;
-      less = other_less _ _ _ _ _ _ c.requires.valid c.requires.there _
-          c.number_at-q.ensures.word c.if-q-l.false;
+      last = ap suc c.owner_of-other.ensures.owns ∙ one_held _ _ _ _ _ _ c.requires.valid c.requires.there;
+      less = omega (arith, c.number_at-q.ensures.word, c.owner_of-other.ensures.owns, other_less _ _ _ _ _ _ c.requires.valid c.requires.there _ c.number_at-q.ensures.word c.if-q-l.false);
     }

@@ -13,13 +13,13 @@ open_payload-requires g c =
 pub put_cell-requires : goal.put_cell-requires
 unfolding base_of
 put_cell-requires g c =
-    let r = put_requires _ _ _ _ _ _ _ _ _ _ _ c.requires.valid c.requires.free c.requires.small c.requires.whole c.open_payload.ensures.opened _ _ c.requires.stands
+    let r = put_requires _ _ _ _ _ _ _ _ _ _ _ c.requires.valid c.requires.free (omega arith) c.requires.whole c.open_payload.ensures.opened _ _ c.requires.stands
     c.requires.order in
     record { directory = r.0; stands = r.1.0; free = r.1.1.0; order = r.1.1.1.0; few = r.1.1.1.1 }
 
 pub returns : goal.returns
 unfolding base_of
 returns g c =
-    let r = put_left _ _ _ _ _ _ _ _ _ _ _ c.requires.valid c.requires.free c.requires.small c.requires.whole c.open_payload.ensures.opened _ _
+    let r = put_left _ _ _ _ _ _ _ _ _ _ _ c.requires.valid c.requires.free (omega arith) c.requires.whole c.open_payload.ensures.opened _ _
     c.requires.stands (refl, (refl, refl)) _ c.put_cell.ensures.put in
     record { left = r.0; content = r.1 }

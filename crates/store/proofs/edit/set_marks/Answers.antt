@@ -23,6 +23,6 @@ set_word-requires g c =
 pub returns : goal.returns
 unfolding base_of
 returns g c =
-    let l = set_left _ _ _ _ _ _ _ c.requires.valid c.requires.there _ c.cell_at-a.ensures.word c.requires.small c.requires.part _
+    let l = set_left _ _ _ _ _ _ _ c.requires.valid c.requires.there _ c.cell_at-a.ensures.word (omega arith) c.requires.part _
     c.set_word.ensures.left in
     record { left = l.0; contents = l.1; rest = c.set_word.ensures.rest }

@@ -3,14 +3,13 @@
 use mathlib.Core.Path.{sym, ◌∙◌}
 use borrow.Author.Rules.{rules}
 use Rattle.types.proofs.IndexLaws.{shifted_word}
-use Rattle.versioned_data.proofs.EntryWrites.{delta_here_lem}
 use Rattle.versioned_data.proofs.EntryOperations.{pos_suc, small_of, found_at, delta_added}
 use Rattle.versioned_data.proofs.edit.add_delta.Goals as goal
 
-pub put_delta-requires : goal.put_delta-requires
-put_delta-requires c =
-    record { valid = c.requires.valid; found = (found_at _ _ _ _ _ (sym c.word.ensures.stored) c.find_entry-found.ensures.found); inside = c.requires.inside; delta = delta_here_lem _ _ c.requires.delta }
+pub put-requires : goal.put-requires
+put-requires c =
+    record { valid = c.requires.valid; found = (found_at _ _ _ _ _ (sym c.word.ensures.stored) c.find_entry-found.ensures.found) }
 
 pub returns : goal.returns
 returns c =
-    record { edited = delta_added _ c.requires.valid _ _ _ (search rules) (small_of _ _ (c.word.ensures.stored ∙ shifted_word _ _ c.new-place.ensures.shifted) c.requires.served) (c.word.ensures.stored ∙ shifted_word _ _ c.new-place.ensures.shifted) _ (found_at _ _ _ _ _ (sym c.word.ensures.stored) c.find_entry-found.ensures.found) (pos_suc _) _ _ (λ j. (c.type_inv.t j).fits) c.requires.inside c.requires.delta _ _ c.put_delta.ensures.put }
+    record { edited = delta_added _ c.requires.valid _ _ _ (search rules) (small_of _ _ (c.word.ensures.stored ∙ shifted_word _ _ c.new-place.ensures.shifted) c.requires.served) (c.word.ensures.stored ∙ shifted_word _ _ c.new-place.ensures.shifted) _ (found_at _ _ _ _ _ (sym c.word.ensures.stored) c.find_entry-found.ensures.found) (pos_suc _) _ (λ j. (c.type_inv.delta j).fits) c.requires.inside c.requires.delta _ _ c.put.ensures.put }

@@ -25,4 +25,4 @@ read-existing-requires c =
 
 pub returns-in-Ok : goal.returns-in-Ok
 returns-in-Ok c =
-    record { base = base_there _ _ _ c.requires.valid _ c.units-n.ensures.units (is_row _ _ c.requires.row _ c.in-Ok.is) c.in-Ok.is _ c.content_at-b.ensures.content (λ j. (c.type_inv.s j).fits) _ _ (λ j. (c.type_inv.t j).fits) c.requires.inside _ _ c.read-existing.ensures.value c.read-value.ensures.value _ c.over_base.ensures.base }
+    record { base = base_there _ _ _ c.requires.valid _ c.units-n.ensures.units (is_row _ _ c.requires.row _ c.in-Ok.is) c.in-Ok.is _ c.content_at-b.ensures.content (λ j. (c.type_inv.s j).fits) _ _ (λ j. (c.type_inv.value j).fits) c.requires.inside _ _ c.read-existing.ensures.value c.read-value.ensures.value _ c.over_base.ensures.base }

@@ -14,13 +14,13 @@ returns-in-Err c =
 pub invariant_of-rows : goal.invariant_of-rows
 invariant_of-rows c = record { valid = row_valid _ c.requires.valid _ c.units-n.ensures.units _ _ (found_row_lem _ _ _ _ c.find_entry-found.ensures.found _ c.in-Ok.is) }
 
-pub marks_at-m-requires : goal.marks_at-m-requires
-marks_at-m-requires c = (omega arith, row_there _ c.requires.valid _ c.units-n.ensures.units _ _ (found_row_lem _ _ _ _ c.find_entry-found.ensures.found _ c.in-Ok.is))
+pub marks_at-requires : goal.marks_at-requires
+marks_at-requires c = (omega arith, row_there _ c.requires.valid _ c.units-n.ensures.units _ _ (found_row_lem _ _ _ _ c.find_entry-found.ensures.found _ c.in-Ok.is))
 
 pub set_marks-requires : goal.set_marks-requires
 set_marks-requires c =
-    record { valid = row_valid _ c.requires.valid _ c.units-n.ensures.units _ _ (found_row_lem _ _ _ _ c.find_entry-found.ensures.found _ c.in-Ok.is); there = row_there _ c.requires.valid _ c.units-n.ensures.units _ _ (found_row_lem _ _ _ _ c.find_entry-found.ensures.found _ c.in-Ok.is); small = omega (arith, mark_few _ c.requires.valid _ c.units-n.ensures.units _ _ (found_row_lem _ _ _ _ c.find_entry-found.ensures.found _ c.in-Ok.is) _ c.marks_at-m.ensures.marks); part = marks_part _ c.requires.valid _ c.units-n.ensures.units _ _ (found_row_lem _ _ _ _ c.find_entry-found.ensures.found _ c.in-Ok.is) _ (mark_few _ c.requires.valid _ c.units-n.ensures.units _ _ (found_row_lem _ _ _ _ c.find_entry-found.ensures.found _ c.in-Ok.is) _ c.marks_at-m.ensures.marks) }
+    record { valid = row_valid _ c.requires.valid _ c.units-n.ensures.units _ _ (found_row_lem _ _ _ _ c.find_entry-found.ensures.found _ c.in-Ok.is); there = row_there _ c.requires.valid _ c.units-n.ensures.units _ _ (found_row_lem _ _ _ _ c.find_entry-found.ensures.found _ c.in-Ok.is); part = marks_part _ c.requires.valid _ c.units-n.ensures.units _ _ (found_row_lem _ _ _ _ c.find_entry-found.ensures.found _ c.in-Ok.is) _ (mark_few _ c.requires.valid _ c.units-n.ensures.units _ _ (found_row_lem _ _ _ _ c.find_entry-found.ensures.found _ c.in-Ok.is) _ c.marks_at.ensures.marks _ c.estimated-marks.ensures.marks) }
 
 pub returns-in-Ok : goal.returns-in-Ok
 returns-in-Ok c =
-    record { edited = mark_done _ c.requires.valid _ _ _ (search rules) (small_of _ _ (shifted_word _ _ c.new.ensures.shifted) c.requires.served) (shifted_word _ _ c.new.ensures.shifted) _ c.find_entry-found.ensures.found (pos_suc _) _ c.in-Ok.is _ c.units-n.ensures.units _ c.marks_at-m.ensures.marks _ c.set_marks.ensures.left }
+    record { edited = mark_done _ c.requires.valid _ _ _ (search rules) (small_of _ _ (shifted_word _ _ c.new.ensures.shifted) c.requires.served) (shifted_word _ _ c.new.ensures.shifted) _ c.find_entry-found.ensures.found (pos_suc _) _ c.in-Ok.is _ c.units-n.ensures.units _ c.marks_at.ensures.marks _ c.estimated-marks.ensures.marks _ c.set_marks.ensures.left }

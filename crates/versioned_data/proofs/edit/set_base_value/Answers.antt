@@ -18,10 +18,10 @@ pub returns-in-Differs : goal.returns-in-Differs
 returns-in-Differs c =
     record { edited = base_refused _ c.requires.valid _ _ (search rules) (base_word _ c.zero_idx-place.ensures.base) _ c.find_entry-found.ensures.found _ _ _ c.base_at.ensures.base c.in-Differs.is }
 
-pub put_write-requires : goal.put_write-requires
-put_write-requires c =
-    record { valid = c.requires.valid; found = (found_at _ _ _ _ _ (sym c.word.ensures.stored) c.find_entry-found.ensures.found); inside = c.requires.inside }
+pub put-requires : goal.put-requires
+put-requires c =
+    record { valid = c.requires.valid; found = (found_at _ _ _ _ _ (sym c.word.ensures.stored) c.find_entry-found.ensures.found) }
 
 pub returns-in-Set : goal.returns-in-Set
 returns-in-Set c =
-    record { edited = base_done _ c.requires.valid _ _ (search rules) (c.word.ensures.stored ∙ base_word _ c.zero_idx-place.ensures.base) _ (found_at _ _ _ _ _ (sym c.word.ensures.stored) c.find_entry-found.ensures.found) _ _ _ c.base_at.ensures.base c.in-Set.is (λ j. (c.type_inv.t j).fits) c.requires.inside c.requires.value _ _ c.put_write.ensures.put }
+    record { edited = base_done _ c.requires.valid _ _ (search rules) (c.word.ensures.stored ∙ base_word _ c.zero_idx-place.ensures.base) _ (found_at _ _ _ _ _ (sym c.word.ensures.stored) c.find_entry-found.ensures.found) _ _ _ c.base_at.ensures.base c.in-Set.is (λ j. (c.type_inv.value j).fits) c.requires.inside c.requires.value _ _ c.put.ensures.put }

@@ -14,10 +14,10 @@ pub returns-then-not-may_write : goal.returns-then-not-may_write
 returns-then-not-may_write c =
     record { edited = write_refused _ c.requires.valid _ _ _ (search rules) (small_of _ _ (shifted_word _ _ c.new-place.ensures.shifted) c.requires.served) (shifted_word _ _ c.new-place.ensures.shifted) _ c.find_entry-found.ensures.found (pos_suc _) _ _ _ _ c.may_write.ensures.may c.if-not-may_write.true-raw }
 
-pub put_write-requires : goal.put_write-requires
-put_write-requires c =
-    record { valid = c.requires.valid; found = (found_at _ _ _ _ _ (sym c.word.ensures.stored) c.find_entry-found.ensures.found); inside = c.requires.inside }
+pub put-requires : goal.put-requires
+put-requires c =
+    record { valid = c.requires.valid; found = (found_at _ _ _ _ _ (sym c.word.ensures.stored) c.find_entry-found.ensures.found) }
 
 pub returns : goal.returns
 returns c =
-    record { edited = write_done _ c.requires.valid _ _ _ (search rules) (small_of _ _ (c.word.ensures.stored ∙ shifted_word _ _ c.new-place.ensures.shifted) c.requires.served) (c.word.ensures.stored ∙ shifted_word _ _ c.new-place.ensures.shifted) _ (found_at _ _ _ _ _ (sym c.word.ensures.stored) c.find_entry-found.ensures.found) (pos_suc _) _ _ _ _ c.may_write.ensures.may c.if-not-may_write.false-raw (search rules) (λ j. (c.type_inv.t j).fits) c.requires.inside c.requires.value c.requires.exchanged _ _ c.put_write.ensures.put }
+    record { edited = write_done _ c.requires.valid _ _ _ (search rules) (small_of _ _ (c.word.ensures.stored ∙ shifted_word _ _ c.new-place.ensures.shifted) c.requires.served) (c.word.ensures.stored ∙ shifted_word _ _ c.new-place.ensures.shifted) _ (found_at _ _ _ _ _ (sym c.word.ensures.stored) c.find_entry-found.ensures.found) (pos_suc _) _ _ _ _ c.may_write.ensures.may c.if-not-may_write.false-raw (search rules) (λ j. (c.type_inv.value j).fits) c.requires.inside c.requires.value c.requires.exchanged _ _ c.put.ensures.put }

@@ -3,6 +3,7 @@
 use mathlib.Core.Path.{sym, ◌∙◌, ap}
 use native.Mathlib.Omega.{arith}
 use Rattle.model.specs.Data.{read_of}
+use Rattle.versioned_data.proofs.MarksTold.{told_ne}
 use Rattle.versioned_data.proofs.WalkBounds.{data_store, read_seen}
 use Rattle.versioned_data.proofs.WalkSteps.{content_fits, own_read}
 use Rattle.versioned_data.proofs.fetch.first_write.Goals as goal
@@ -22,6 +23,6 @@ returns c =
       wrote = record {
         inside = content_fits _ _ store _ _ own.there _ c.content_at.ensures.content;
         read = ap read_of (sym seen)
-            ∙ own_read _ _ store _ _ _ own _ c.marks_at.ensures.marks c.if-marks_at-ne-WRITE.false _ c.place_at.ensures.place _ c.content_at.ensures.content;
+            ∙ own_read _ _ store _ _ _ own _ c.marks_at.ensures.marks (told_ne _ _ _ c.ne.ensures c.if-ne.false) _ c.place_at.ensures.place _ c.content_at.ensures.content;
       };
     }

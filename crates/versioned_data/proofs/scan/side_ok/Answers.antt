@@ -1,5 +1,6 @@
 -- `versioned_data::scan::side_ok` meets its contract.
 -- Assumes nothing.
+use mathlib.Core.Path.{◌∙◌}
 use Rattle.versioned_data.proofs.ScanSteps.{side_above, side_first, side_base}
 use Rattle.versioned_data.proofs.scan.side_ok.Goals as goal
 
@@ -13,4 +14,4 @@ returns-then-s-b-ne0 c =
 
 pub returns : goal.returns
 returns c =
-    record { side = side_base c.args.s.now _ _ _ c.requires.inside c.if-place-ne0.false c.if-s-b-ne0.false }
+    record { side = c.eq.ensures ∙ side_base c.args.s.now _ _ _ c.requires.inside c.if-place-ne0.false c.if-s-b-ne0.false }

@@ -5,6 +5,7 @@ use Prim.Native.Nat.{ℕ, suc, ◌%◌}
 use native.Mathlib.Omega.{arith}
 use Rattle.store.specs.Held.{position_or_end}
 use Rattle.versioned_data.specs.Rows.{position_in}
+use Rattle.versioned_data.proofs.MarksTold.{told, told_not}
 use Rattle.versioned_data.proofs.WalkSteps.{deltas_end, from_none, own_inside, own_few, own_none, own_more}
 use Rattle.versioned_data.proofs.walk.Entries.+deltas.Goals as goal
 
@@ -13,10 +14,10 @@ unfolding position_or_end
 returns-in_default t c =
     record { deltas = omega (arith, deltas_end _ _ _ (rw c.in_default.is at c.of_key.ensures.other)) }
 
-pub returns-then-marks_at-ne1 : goal.returns-then-marks_at-ne1
+pub returns-then-not-goes_on : goal.returns-then-not-goes_on
 unfolding position_or_end
-returns-then-marks_at-ne1 t c =
-    record { deltas = omega (arith, own_none _ _ (record { valid = c.args.self.now.rows.valid; fine = c.args.self.now.fine }) _ _ _ c.in-Some.ensures.met _ c.marks_at.ensures.marks c.if-marks_at-ne1.true) }
+returns-then-not-goes_on t c =
+    record { deltas = omega (arith, own_none _ _ (record { valid = c.args.self.now.rows.valid; fine = c.args.self.now.fine }) _ _ _ c.in-Some.ensures.met _ c.marks_at.ensures.marks (told_not _ _ _ c.goes_on.ensures.goes_on c.if-not-goes_on.true)) }
 
 pub overflow_add-met : goal.overflow_add-met
 unfolding position_or_end
@@ -25,7 +26,7 @@ overflow_add-met t c = omega (arith, c.requires.few, own_few _ _ (record { valid
 pub returns-in_default-next : goal.returns-in_default-next
 unfolding position_or_end
 returns-in_default-next t c =
-    let more = own_more _ _ (record { valid = c.args.self.now.rows.valid; fine = c.args.self.now.fine }) _ _ _ c.in-Some.ensures.met (ap (λ (k : ℕ). k % 8) (sym c.marks_at.ensures.marks) ∙ c.if-marks_at-ne1.false) _ c.next.ensures.place in
+    let more = own_more _ _ (record { valid = c.args.self.now.rows.valid; fine = c.args.self.now.fine }) _ _ _ c.in-Some.ensures.met (ap (λ (k : ℕ). k % 8) (sym c.marks_at.ensures.marks) ∙ told _ _ _ c.goes_on.ensures.goes_on c.if-not-goes_on.false) _ c.next.ensures.place in
     record { deltas = omega (arith, more, deltas_end _ _ _ (from_none _ _ (record { valid = c.args.self.now.rows.valid; fine = c.args.self.now.fine }) c.args.key _ c.next.ensures.there c.in_default-next.is)) }
 
 pub deltas-requires : goal.deltas-requires
@@ -40,5 +41,5 @@ deltas-requires t c =
 pub returns : goal.returns
 unfolding position_or_end
 returns t c =
-    let more = own_more _ _ (record { valid = c.args.self.now.rows.valid; fine = c.args.self.now.fine }) _ _ _ c.in-Some.ensures.met (ap (λ (k : ℕ). k % 8) (sym c.marks_at.ensures.marks) ∙ c.if-marks_at-ne1.false) _ c.in-Some-next.ensures.place in
+    let more = own_more _ _ (record { valid = c.args.self.now.rows.valid; fine = c.args.self.now.fine }) _ _ _ c.in-Some.ensures.met (ap (λ (k : ℕ). k % 8) (sym c.marks_at.ensures.marks) ∙ told _ _ _ c.goes_on.ensures.goes_on c.if-not-goes_on.false) _ c.in-Some-next.ensures.place in
     record { deltas = omega (arith, more, c.deltas.ensures.deltas) }

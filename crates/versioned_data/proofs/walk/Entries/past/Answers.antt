@@ -13,9 +13,9 @@ read_op-earlier-requires c =
 
 pub new-requires : goal.new-requires
 new-requires c =
-    record { is_delta = op_valid _ _ (record { valid = c.args.self.rows.valid; fine = c.args.self.fine }) _ _ c.requires.there _ c.content_at-b.ensures.content _ c.marks_at-marks.ensures.marks (ap (λ (k : ℕ). k % 8) c.marks_at-marks.ensures.marks ∙ c.requires.delta) _ refl _ c.read_op-earlier.ensures.op }
+    record { is_delta = op_valid _ _ (record { valid = c.args.self.rows.valid; fine = c.args.self.fine }) _ _ c.requires.there _ c.content_at-b.ensures.content _ c.marks_at.ensures.marks (ap (λ (k : ℕ). k % 8) c.marks_at.ensures.marks ∙ c.requires.delta) _ c.sign.ensures.sign _ c.read_op-earlier.ensures.op }
 
 pub returns : goal.returns
 returns c =
-    let is = op_exact _ _ (record { valid = c.args.self.rows.valid; fine = c.args.self.fine }) _ _ c.requires.there _ c.content_at-b.ensures.content _ c.marks_at-marks.ensures.marks (ap (λ (k : ℕ). k % 8) c.marks_at-marks.ensures.marks ∙ c.requires.delta) _ refl _ c.read_op-earlier.ensures.op in
+    let is = op_exact _ _ (record { valid = c.args.self.rows.valid; fine = c.args.self.fine }) _ _ c.requires.there _ c.content_at-b.ensures.content _ c.marks_at.ensures.marks (ap (λ (k : ℕ). k % 8) c.marks_at.ensures.marks ∙ c.requires.delta) _ c.sign.ensures.sign _ c.read_op-earlier.ensures.op in
     record { gathered = c.accumulate.ensures.accumulates ∙ ap (λ (d : Delta). accumulator_of (accumulate (exactly c.args.acc) d)) (c.new.ensures.same ∙ is) }
