@@ -1,9 +1,8 @@
-pub mod RequestAsks
+pub mod AskedRules
 pub mod CheckAnswers
 mod FieldRules
 mod IndexRules
 pub mod KindNumbers
-pub mod KindRules
 pub mod CheckPasses
 mod CheckSamples
 pub mod Shapes
@@ -11,6 +10,5 @@ pub mod TableRule
 pub mod SetTags
 pub mod MemberViews
 pub mod TableTails
-mod WordFields
 mod DataRules
 pub mod DataFields

@@ -1,4 +1,3 @@
-use mathlib.Core.Path.{sym, ◌∙◌}
 use borrow.Author.Rules.{rules}
 use Rattle.request.proofs.SetTags.{split_low, split_high, tags_empty}
 use Rattle.request.proofs.set.Set.split_first.Goals as goal
