@@ -12,9 +12,9 @@ use Rattle.lists.proofs.Bools.{and_left, and_right, and_three}
 use Rattle.types.specs.Refusal.{wrong_count, bad_field, index_too_high, refusal_number, result_number}
 use Rattle.request.specs.Table.{by_set, longest_of, longest_count}
 use Rattle.request.specs.Request.{row_at, count_of, tags_by, tags, tail_length, tail_ok, count_ok, shape_ok, fields_ok, index_ok, refusal_of}
-use Rattle.request.specs.Fields.{kind_at, fields_at}
+use Rattle.request.specs.Fields.{kind_at, asked_at}
 use Rattle.request.specs.Checked.{refusal_named, check_of}
-use Rattle.request.specs.declared.asked.Fields.{Fields}
+use Rattle.request.specs.declared.asked.Request.{Request}
 use Rattle.types.specs.declared.refusal.Refusal.{Refusal}
 use Rattle.types.specs.declared.refusal.Refusal.TheVariants.{WrongCount, BadField, IndexTooHigh}
 use Rattle.request.proofs.KindNumbers.{there_small}
@@ -79,18 +79,18 @@ module _ (t : List ℕ) (a : Bool) (s : a ≡ shape_ok t) where
         unfolding check_of refusal_of
         check_index h = rw (shape_true, sym f ∙ not-false b ruled, sym i ∙ not-true c h) refl
 
-        pub check_accepted : not c ≡ false → (g : Fields) → g ≡ fields_at t → Ok g ≡ check_of t
+        pub check_accepted : not c ≡ false → (g : Request) → g ≡ asked_at t → Ok g ≡ check_of t
         unfolding check_of refusal_of
         check_accepted h g e = rw (shape_true, sym f ∙ not-false b ruled, sym i ∙ not-false c h, e) refl
 
 -- ---- what a caller of the check learns
 
-pub record Passed (t : List ℕ) (f : Fields) : Type 0 where
+pub record Passed (t : List ℕ) (f : Request) : Type 0 where
   pub refusal : refusal_of t ≡ 0
   pub shape : shape_ok t ≡ true
   pub rules : fields_ok (row_at t).kind t ≡ true
   pub served : index_ok t ≡ true
-  pub fields : f ≡ fields_at t
+  pub asked : f ≡ asked_at t
 
 refusal_by : Bool → Bool → Bool → ℕ
 refusal_by a b c = cond a (cond b (cond c 0 index_too_high) bad_field) wrong_count
@@ -113,11 +113,11 @@ none_index true true false e = absurd (omega arith)
 none_index true false false e = absurd (omega arith)
 none_index false b false e = absurd (omega arith)
 
-by_accepted : (b : Bool) (n : ℕ) (g f : Fields) → eqb n 0 ≡ b → cond b (Ok g) (Err (refusal_named n)) ≡ Ok f → n ≡ 0
+by_accepted : (b : Bool) (n : ℕ) (g f : Request) → eqb n 0 ≡ b → cond b (Ok g) (Err (refusal_named n)) ≡ Ok f → n ≡ 0
 by_accepted true n g f e h = eqb-true n 0 e
 by_accepted false n g f e h = absurd (let z : ◌≡◌ {A = ℕ} 0 1 = cc in omega arith)
 
-by_fields : (b : Bool) (n : ℕ) (g f : Fields) → cond b (Ok g) (Err (refusal_named n)) ≡ Ok f → f ≡ g
+by_fields : (b : Bool) (n : ℕ) (g f : Request) → cond b (Ok g) (Err (refusal_named n)) ≡ Ok f → f ≡ g
 by_fields true n g f h = cc
 by_fields false n g f h = absurd (let z : ◌≡◌ {A = ℕ} 0 1 = cc in omega arith)
 
@@ -126,22 +126,22 @@ module _ (t : List ℕ) where
   unfolding refusal_of refusal_by
   refusal_parts = refl
 
-  pub accepted_passed : (f : Fields) → check_of t ≡ Ok f → Passed t f
+  pub accepted_passed : (f : Request) → check_of t ≡ Ok f → Passed t f
   unfolding check_of
   accepted_passed f h =
-      let z : refusal_of t ≡ 0 = by_accepted (eqb (refusal_of t) 0) (refusal_of t) (fields_at t) f refl h in
+      let z : refusal_of t ≡ 0 = by_accepted (eqb (refusal_of t) 0) (refusal_of t) (asked_at t) f refl h in
       let p : refusal_by (shape_ok t) (fields_ok (row_at t).kind t) (index_ok t) ≡ 0 = sym refusal_parts ∙ z in
       record {
         refusal = z;
         shape = none_shape (shape_ok t) (fields_ok (row_at t).kind t) (index_ok t) p;
         rules = none_fields (shape_ok t) (fields_ok (row_at t).kind t) (index_ok t) p;
         served = none_index (shape_ok t) (fields_ok (row_at t).kind t) (index_ok t) p;
-        fields = by_fields (eqb (refusal_of t) 0) (refusal_of t) (fields_at t) f h;
+        asked = by_fields (eqb (refusal_of t) 0) (refusal_of t) (asked_at t) f h;
       }
 
 -- ---- the whole check, by its number
 
-number_by : (a b c : Bool) (g : Fields)
+number_by : (a b c : Bool) (g : Request)
     → result_number (cond (eqb (refusal_by a b c) 0) (Ok g) (Err (refusal_named (refusal_by a b c)))) ≡ refusal_by a b c
 unfolding refusal_by
 number_by true true true g = refl
@@ -153,7 +153,7 @@ module _ (t : List ℕ) where
   pub check_number : result_number (check_of t) ≡ refusal_of t
   unfolding check_of
   check_number =
-      rw (refusal_parts t) (number_by (shape_ok t) (fields_ok (row_at t).kind t) (index_ok t) (fields_at t))
+      rw (refusal_parts t) (number_by (shape_ok t) (fields_ok (row_at t).kind t) (index_ok t) (asked_at t))
 
   pub refused_told : (refusal : Refusal) → check_of t ≡ Err refusal → refusal_number refusal ≡ refusal_of t
   refused_told refusal e = rw e at check_number

@@ -1,5 +1,5 @@
--- What a caller knows of a request of kinds 1 to 7 that is not refused: that the check accepts it, its length, and its fields by the places of its words.
-use mathlib.Core.Path.{◌≡◌, refl, ap, ◌∙◌}
+-- What a caller knows of a request of kinds 1 to 7 that is not refused: its length, its index, its delta, and what it asks by the places of its words.
+use mathlib.Core.Path.{◌≡◌, refl, sym, ap, ◌∙◌}
 use mathlib.Core.Bool.{true}
 use mathlib.Core.List.{List}
 use Prim.Native.Nat.{ℕ, ◌+◌, ◌≤◌, ◌<◌}
@@ -7,23 +7,26 @@ use native.Mathlib.Nat.{add-zero}
 use native.Mathlib.Omega.{arith}
 use lib.ListN.{length, get_or, take, drop, length-drop}
 use lib.Seq.{take_all}
+use lib.Dec.{leb}
+use borrow.Author.Tests.{leb-true}
 use Rattle.delta.specs.Delta.{delta_width, delta_at, delta_ok}
 use Rattle.types.specs.Value.{value_width, value_at}
-use Rattle.request.specs.Table.{number_of, row, at, table, row_of, key_place, index_place, incarnation_place}
-use Rattle.request.specs.Request.{row_at, value_in, delta_in, tail_length, shape_ok, refusal_of, base, write, add_delta, estimate, remove, fetch, materialize, request_as, request_of}
-use Rattle.request.specs.Fields.{kind_at, index_field, index_at, incarnation_as, fields_at}
+use Rattle.request.specs.Table.{row, at, table, row_of, key_place, index_place, incarnation_place}
+use Rattle.request.specs.Request.{row_at, value_in, delta_in, tail_length, last_index, index_in, index_ok, fields_ok, refusal_of, base, write, add_delta, estimate, remove, fetch, materialize, request_as, request_of}
+use Rattle.request.specs.Fields.{kind_at, asked_at}
 use Rattle.request.specs.Checked.{check_of}
-use Rattle.std.specs.Prelude.{Ok}
-use Rattle.request.proofs.KindNumbers.{number_back, row_named}
-use Rattle.request.proofs.CheckAnswers.{Passed, shape_small, shape_length, accepted_passed}
-use Rattle.request.proofs.CheckPasses.{passed_index, passed_materialize, passed_delta}
+use Rattle.request.proofs.KindNumbers.{row_named}
+use Rattle.request.proofs.CheckAnswers.{Passed, shape_length, accepted_passed}
 use Rattle.request.proofs.DataRules.{each_data, data_alone}
 
-index_word : (t : List ℕ) (k : ℕ) → 1 ≤ k → k ≤ 7 → 1 < k → index_field (row_of k).index t ≡ get_or t index_place 0
-unfolding row_of table row at index_field
-index_word t =
-    each_data (λ k. 1 < k → index_field (row_of k).index t ≡ get_or t index_place 0) (λ h. absurd (omega arith)) (λ h. refl) (λ h. refl) (λ h. refl)
-    (λ h. refl) (λ h. refl) (λ h. refl)
+index_le : (t : List ℕ) (k : ℕ) → 1 ≤ k → k ≤ 7 → 1 < k → index_in (row_of k).index t ≡ true → get_or t index_place 0 ≤ 4294967294
+unfolding row_of table row at index_in last_index
+index_le t =
+    each_data (λ k. 1 < k → index_in (row_of k).index t ≡ true → get_or t index_place 0 ≤ 4294967294) (λ h e. absurd (omega arith)) (λ h. low) (λ h. low)
+    (λ h. low) (λ h. low) (λ h. low) (λ h e. omega (arith, leb-true (get_or t index_place 0) 4294967293 e))
+  where
+    low : leb (get_or t index_place 0) 4294967294 ≡ true → get_or t index_place 0 ≤ 4294967294
+    low e = leb-true (get_or t index_place 0) 4294967294 e
 
 plain_fixed : (k : ℕ) → 1 ≤ k → k ≤ 7 → 3 < k → (row_of k).fixed ≡ 2
 unfolding row_of table row
@@ -31,7 +34,7 @@ plain_fixed =
     each_data (λ k. 3 < k → (row_of k).fixed ≡ 2) (λ h. absurd (omega arith)) (λ h. absurd (omega arith)) (λ h. absurd (omega arith)) (λ h. refl)
     (λ h. refl) (λ h. refl) (λ h. refl)
 
--- ---- the fields, as words
+-- ---- what is asked, in words
 
 module _ (t : List ℕ) where
   named : (n : ℕ) → kind_at t ≡ n → row_at t ≡ row_of n
@@ -39,37 +42,6 @@ module _ (t : List ℕ) where
 
   place : (n : ℕ) → kind_at t ≡ n → (row_at t).value ≡ (row_of n).value
   place n k = rw (named n k) refl
-
-  pub data_kind : shape_ok t ≡ true → number_of (fields_at t).kind ≡ kind_at t
-  unfolding fields_at
-  data_kind s = number_back (kind_at t) (shape_small t s)
-
-  pub data_key : (fields_at t).key ≡ get_or t key_place 0
-  unfolding fields_at
-  data_key = refl
-
-  -- Kinds 2 to 7.
-  pub data_index : 1 < kind_at t → kind_at t ≤ 7 → (fields_at t).index ≡ get_or t index_place 0
-  unfolding fields_at index_at
-  data_index low high = rw (named (kind_at t) refl) (index_word t (kind_at t) (omega arith) high low)
-
-  pub write_incarnation : kind_at t ≡ 2 → (fields_at t).incarnation ≡ get_or t incarnation_place 0
-  unfolding fields_at incarnation_as
-  write_incarnation k = rw k refl
-
-  pub base_value : kind_at t ≡ 1 → (fields_at t).value ≡ 2
-  unfolding fields_at row_of table row
-  base_value k = place 1 k
-
-  pub write_value_lem : kind_at t ≡ 2 → (fields_at t).value ≡ 4
-  unfolding fields_at row_of table row
-  write_value_lem k = place 2 k
-
-  pub delta_value : kind_at t ≡ 3 → (fields_at t).value ≡ 3
-  unfolding fields_at row_of table row
-  delta_value k = place 3 k
-
-  -- ---- what is asked, in words
 
   asked : (n : ℕ) → kind_at t ≡ n → request_of t ≡ request_as (row_of n).kind t
   unfolding request_of
@@ -107,18 +79,14 @@ module _ (t : List ℕ) where
 -- ---- a request that is not refused
 
 module _ (t : List ℕ) (z : refusal_of t ≡ 0) where
-  pub data_accepted : check_of t ≡ Ok (fields_at t)
+  passed : Passed t (asked_at t)
   unfolding check_of
-  data_accepted = rw z refl
-
-  -- With it the laws of CheckPasses and of RequestAsks hold of `fields_at t`.
-  pub data_passed : Passed t (fields_at t)
-  data_passed = accepted_passed t (fields_at t) data_accepted
+  passed = accepted_passed t (asked_at t) (rw z refl)
 
   -- A request has its fixed words, and no more.
   pub data_length : (n : ℕ) → kind_at t ≡ n → 1 ≤ n → n ≤ 7 → length t ≡ (row_of n).fixed + 1
   unfolding tail_length
-  data_length n k low high = rw (named t n k, data_alone n low high, add-zero) at (shape_length t data_passed.shape)
+  data_length n k low high = rw (named t n k, data_alone n low high, add-zero) at (shape_length t passed.shape)
 
   pub base_length : kind_at t ≡ 1 → length t ≡ 2 + value_width
   unfolding row_of table row
@@ -137,19 +105,24 @@ module _ (t : List ℕ) (z : refusal_of t ≡ 0) where
   plain_length low high =
       omega (arith, data_length (kind_at t) refl (omega arith) high, plain_fixed (kind_at t) (omega arith) high low)
 
+  served : (n : ℕ) → kind_at t ≡ n → index_in (row_of n).index t ≡ true
+  unfolding index_ok
+  served n k = rw (named t n k) at passed.served
+
   -- The index of kinds 2 to 7 can be shifted, that of kind 7 twice.
   pub data_served : 1 < kind_at t → kind_at t ≤ 7 → get_or t index_place 0 ≤ 4294967294
-  data_served low high = rw (data_index t low high) at (passed_index t (fields_at t) data_passed)
+  data_served low high = index_le t (kind_at t) (omega arith) high low (served (kind_at t) refl)
 
   pub materialize_served : kind_at t ≡ 7 → get_or t index_place 0 ≤ 4294967293
-  materialize_served k =
-      rw (data_index t (omega arith) (omega arith)) at (passed_materialize t (fields_at t) data_passed (data_kind t data_passed.shape ∙ k))
+  unfolding row_of table row at index_in last_index
+  materialize_served k = leb-true (get_or t index_place 0) 4294967293 (served 7 k)
 
   -- A delta is all that follows the index.
   pub delta_words_lem : kind_at t ≡ 3 → take delta_width (drop 3 t) ≡ drop 3 t
   delta_words_lem k = take_all delta_width (drop 3 t) (omega (arith, length-drop 3 t, delta_length k))
 
   pub delta_ok_lem : kind_at t ≡ 3 → delta_ok (take delta_width (drop 3 t)) ≡ true
+  unfolding row_of table row fields_ok delta_in
   delta_ok_lem k =
-      let d : delta_ok (drop 3 t) ≡ true = rw (delta_value t k) at (passed_delta t (fields_at t) data_passed (data_kind t data_passed.shape ∙ k)) in
-      ap delta_ok (delta_words_lem k) ∙ d
+      let rule : fields_ok (row_of 3).kind t ≡ true = rw (named t 3 k) at passed.rules in
+      ap delta_ok (delta_words_lem k) ∙ ap (λ (p : ℕ). delta_ok (drop p t)) (sym (place t 3 k)) ∙ rule

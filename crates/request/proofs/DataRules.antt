@@ -6,8 +6,8 @@ use Prim.Native.Nat.{ℕ, zero, suc, ◌+◌, ◌-◌, ◌/◌, ◌%◌, ◌^◌
 use native.Mathlib.Nat.{add-zero}
 use native.Mathlib.Omega.{arith}
 use lib.Dec.{eqb, leb, ltb}
-use lib.ListN.{length, get_or, take, drop}
-use lib.Seq.{get_or-take, get_or-drop}
+use lib.ListN.{length, get_or, take, drop, length-drop}
+use lib.Seq.{get_or-take, get_or-drop, take_all}
 use borrow.Author.Tests.{lt-ltb, eq-eqb, ne_eqb, eqb-true, le-leb, lt-leb}
 use Rattle.lists.proofs.Bools.{and_three}
 use Rattle.delta.specs.Delta.{delta_ok}
@@ -15,14 +15,13 @@ use Rattle.types.specs.Value.{value_width, value_at, value_ok, is_exchanged}
 use Rattle.types.specs.Response.{count_in}
 use Rattle.types.specs.Refusal.{wrong_count, bad_field, index_too_high}
 use Rattle.request.specs.Table.{Kind, number_of, LastCommitted, Base, Write, AddDelta, Estimate, Remove, Fetch, Materialize, GroupBase, Exchange, GroupWrite, GroupEstimate, GroupRemove, GroupFetch, GroupSize, Finalize, alone, row, at, table, row_of, longest_count, index_place}
-use Rattle.request.specs.Request.{row_at, count_of, tail_length, tail_ok, count_ok, shape_ok, exchanged_ok, fields_ok, last_index, index_in, index_ok, refusal_of}
+use Rattle.request.specs.Request.{row_at, count_of, tail_length, tail_ok, count_ok, shape_ok, exchanged_ok, value_in, delta_in, fields_ok, last_index, index_in, index_ok, refusal_of}
 use Rattle.request.specs.Rows.{added_to, layout, cells_of}
-use Rattle.request.specs.Fields.{kind_at, head_at, side_ok}
+use Rattle.request.specs.Fields.{kind_at}
 use Rattle.request.specs.declared.table.Cells.{Cells}
-use Rattle.request.proofs.KindNumbers.{number_back, row_named}
+use Rattle.request.proofs.KindNumbers.{row_named}
 use Rattle.request.proofs.Shapes.{fixed_few}
-use Rattle.request.proofs.CheckAnswers.{shape_small, shape_length}
-use Rattle.request.proofs.KindRules.{room_value, rule_base, rule_write, rule_delta}
+use Rattle.request.proofs.CheckAnswers.{shape_whole, shape_length}
 
 -- ---- the rows of the data kinds
 
@@ -132,25 +131,23 @@ exchanged_at t place = ap (λ (x : ℕ). eqb (x / 2 ^ 29 % 2) 1) (head_at_lem t 
 
 module _ (t : List ℕ) (s : shape_ok t ≡ true) (kind : ℕ) (e : kind ≡ kind_at t) where
   module _ (n : ℕ) (k : kind ≡ n) where
-    head_kind : number_of (head_at t).kind ≡ n
-    unfolding head_at
-    head_kind = number_back (kind_at t) (shape_small t s) ∙ sym e ∙ k
-
-    place : (row_of n).value ≡ (head_at t).row.value
-    unfolding head_at
+    place : (row_of n).value ≡ (row_at t).value
     place = rw (row_named t kind e n k) refl
+
+    rules : fields_ok (row_of n).kind t ≡ fields_ok (row_at t).kind t
+    rules = rw (row_named t kind e n k) refl
 
     -- the words of a value or of a delta
     pub data_room : (width : ℕ) → (row_of n).value + width ≤ (row_of n).fixed + 1 → (row_of n).value + width ≤ length t
-    data_room width h = rw place (room_value t s (head_at t) refl n head_kind width h)
+    data_room width h = let long = rw (row_named t kind e n k) at (shape_whole t s) in omega arith
 
   pub data_base : kind ≡ 1 → (b : Bool) → b ≡ value_ok (value_at 2 t) → b ≡ fields_ok (row_at t).kind t
-  unfolding row_of table row
-  data_base k b o = rule_base t s (head_at t) refl (head_kind 1 k) b (o ∙ ap (λ (p : ℕ). value_ok (value_at p t)) (place 1 k))
+  unfolding row_of table row fields_ok value_in
+  data_base k b o = o ∙ ap (λ (p : ℕ). value_ok (value_at p t)) (place 1 k) ∙ rules 1 k
 
   write_side : kind ≡ 2 → (b : Bool) → b ≡ exchanged_ok (value_at 4 t) → b ≡ fields_ok (row_at t).kind t
-  unfolding row_of table row side_ok
-  write_side k b o = rule_write t s (head_at t) refl (head_kind 2 k) b (o ∙ ap (λ (p : ℕ). exchanged_ok (value_at p t)) (place 2 k))
+  unfolding row_of table row fields_ok value_in
+  write_side k b o = o ∙ ap (λ (p : ℕ). exchanged_ok (value_at p t)) (place 2 k) ∙ rules 2 k
 
   pub data_free : 1 ≤ kind → kind ≤ 7 → 3 < kind → true ≡ fields_ok (row_at t).kind t
   data_free low high h = rw (row_named t kind e kind refl) (sym (free t kind low high h))
@@ -165,8 +162,11 @@ module _ (t : List ℕ) (s : shape_ok t ≡ true) (kind : ℕ) (e : kind ≡ kin
       write_side k b (rw (exchanged_at t 4, eq-eqb (get_or t 4 0 / 2 ^ 29 % 2) 1 h) (o ∙ and-true (value_ok (value_at 4 t))))
 
   pub data_delta : kind ≡ 3 → (b : Bool) → b ≡ delta_ok (take 17 (drop 3 t)) → b ≡ fields_ok (row_at t).kind t
-  unfolding row_of table row
-  data_delta k b o = rule_delta t s (head_at t) refl (head_kind 3 k) b (o ∙ ap (λ (p : ℕ). delta_ok (take 17 (drop p t))) (place 3 k))
+  unfolding row_of table row fields_ok delta_in tail_length
+  data_delta k b o =
+      let exact = rw (row_named t kind e 3 k) at (shape_length t s) in
+      let all_of : take 17 (drop 3 t) ≡ drop 3 t = take_all 17 (drop 3 t) (omega (arith, length-drop 3 t)) in
+      o ∙ ap delta_ok all_of ∙ ap (λ (p : ℕ). delta_ok (drop p t)) (place 3 k) ∙ rules 3 k
 
 -- ---- the whole
 
@@ -193,8 +193,8 @@ module _ (t : List ℕ) (kind : ℕ) (e : kind ≡ kind_at t) (low : 1 ≤ kind)
     fixed_is : c.0 ≡ (row_at t).fixed
     fixed_is = rw row_is (ap (λ (x : Cells). x.0) l)
 
-    added_is : c.4 ≡ added_to (row_of kind).index
-    added_is = ap (λ (x : Cells). x.4) l
+    added_is : c.3 ≡ added_to (row_of kind).index
+    added_is = ap (λ (x : Cells). x.3) l
 
     pub data_few : c.0 ≤ longest_count
     data_few = rw fixed_is (fixed_few t (layout (row_at t)) refl)
@@ -239,7 +239,7 @@ module _ (t : List ℕ) (kind : ℕ) (e : kind ≡ kind_at t) (low : 1 ≤ kind)
           unfolding refusal_of index_ok
           none_refused h k = rw (data_shape, sym g ∙ h, row_is, no_index t kind k) refl
 
-          pub refused_index : (x : ℕ) → x ≡ cond (leb (get_or t index_place 0) (4294967295 - c.4)) 0 index_too_high → b ≡ true → 1 < kind → x ≡ refusal_of t
+          pub refused_index : (x : ℕ) → x ≡ cond (leb (get_or t index_place 0) (4294967295 - c.3)) 0 index_too_high → b ≡ true → 1 < kind → x ≡ refusal_of t
           unfolding refusal_of index_ok
           refused_index x y h more =
               let i : x ≡ cond (index_in (row_of kind).index t) 0 index_too_high = y ∙ rw (added_is, index_bound_lem t kind low high more) refl in

@@ -1,91 +1,64 @@
--- The rules of a request's fields: refusal 3, from the tests that the code makes.
+-- The rule of the values of a set, one after another.
 use mathlib.Core.Path.{◌≡◌, refl, sym, ap, ◌∙◌}
-use mathlib.Core.Bool.{Bool, true, false, beq, not, ◌&&◌}
-use mathlib.Core.List.{List}
+use mathlib.Core.Bool.{Bool, true, false, ◌&&◌}
+use mathlib.Core.List.{List, [], ◌∷◌}
 use Prim.Native.Nat.{ℕ, zero, suc, ◌+◌, ◌-◌, ◌*◌, ◌≤◌, ◌<◌}
 use native.Mathlib.Omega.{arith}
-use lib.Dec.{leb}
-use lib.ListN.{get_or, drop}
+use lib.ListN.{length, take, drop}
 use lib.Seq.{drop-drop}
-use borrow.Author.Tests.{le-leb, lt-leb}
-use Rattle.types.specs.Value.{value_width, value_at, value_ok, is_exchanged, is_deletion}
-use Rattle.request.specs.Table.{Exchange, tag_place}
-use Rattle.request.specs.Request.{row_at, value_in, exchanged_ok, raw_ok, tag_ok, fields_ok}
-use Rattle.request.specs.Fields.{side_ok, values_ok}
+use Rattle.types.specs.Value.{value_width, value_at}
+use Rattle.request.specs.Set.{tags_of, members_of}
+use Rattle.request.specs.Members.{members_in}
+use Rattle.request.specs.Request.{all}
+use Rattle.request.specs.Fields.{side_ok}
+use Rattle.request.specs.declared.members.Members.{Members}
+use Rattle.request.proofs.MemberViews.{members_length}
 
--- ---- one value: `w` are the words of the struct that was read, `v` those of the request
+-- The rule of n values in a row.
+unfoldable pub values_ok_lem : Bool → ℕ → List ℕ → Bool
+values_ok_lem e zero ws = true
+values_ok_lem e (suc n) ws = side_ok e (take value_width ws) && values_ok_lem e n (drop value_width ws)
 
-module _ (w v : List ℕ) (q : w ≡ v) (ok : Bool) (o : ok ≡ value_ok w) where
-  ok_is : ok ≡ value_ok v
-  ok_is = o ∙ ap value_ok q
-
-  pub side_bad : ok ≡ false → (e : Bool) → ok ≡ side_ok e v
-  unfolding side_ok exchanged_ok raw_ok
-  side_bad h true = rw (sym ok_is ∙ h) h
-  side_bad h false = rw (sym ok_is ∙ h) h
-
-  same_side : (x e : Bool) → x ≡ is_exchanged v → value_ok v ≡ true → beq x e ≡ side_ok e v
-  unfolding side_ok exchanged_ok raw_ok
-  same_side true true y g = rw g y
-  same_side true false y g = rw (g, sym y) refl
-  same_side false true y g = rw g y
-  same_side false false y g = rw (g, sym y) refl
-
-  pub side_good : ok ≡ true → (e x : Bool) → x ≡ is_exchanged w → beq x e ≡ side_ok e v
-  side_good h e x y = same_side x e (y ∙ ap is_exchanged q) (sym ok_is ∙ h)
-
--- ---- values in a row
+values_of : (e : Bool) (ts ws : List ℕ) → all (side_ok e) (members_of ts ws) ≡ values_ok_lem e (length ts) ws
+unfolding values_ok_lem all members_of
+values_of e [] ws = refl
+values_of e (t ∷ ts) ws = ap (λ (b : Bool). side_ok e (take value_width ws) && b) (values_of e ts (drop value_width ws))
 
 values_next : (e : Bool) (t : List ℕ) (place left : ℕ) → 0 < left
-    → values_ok e left (drop place t) ≡ (side_ok e (value_at place t) && values_ok e (left - 1) (drop (place + value_width) t))
-unfolding values_ok value_at
+    → values_ok_lem e left (drop place t) ≡ (side_ok e (value_at place t) && values_ok_lem e (left - 1) (drop (place + value_width) t))
+unfolding values_ok_lem value_at
 values_next e t place zero h = absurd (omega arith)
 values_next e t place (suc left) h =
     let l : suc left - 1 ≡ left = omega arith in rw (l, ← drop-drop value_width place t) refl
 
-module _ (e : Bool) (t : List ℕ) (all_of : Bool) (at n i : ℕ) (inv : all_of ≡ values_ok e (n - i) (drop (at + value_width * i) t)) where
-  pub values_done : n ≤ i → true ≡ all_of
-  unfolding values_ok
-  values_done h = let z : n - i ≡ 0 = omega arith in sym (inv ∙ ap (λ (m : ℕ). values_ok e m (drop (at + value_width * i) t)) z)
+module _ (e : Bool) (m : Members) where
+  -- What is left decides.
+  abbrev pub left_of : ℕ → Bool
+  left_of i = values_ok_lem e (length (members_in m) - i) (drop (value_width * i) m.values.now)
 
-  module _ (more : i < n) (b : Bool) (o : b ≡ side_ok e (value_at (at + value_width * i) t)) where
-    next : all_of ≡ (side_ok e (value_at (at + value_width * i) t) && values_ok e (n - i - 1) (drop (at + value_width * i + value_width) t))
-    next = inv ∙ values_next e t (at + value_width * i) (n - i) (omega arith)
+  pub values_all : all (side_ok e) (members_in m) ≡ left_of 0
+  unfolding members_in
+  values_all =
+      let n : length (tags_of m.set.low m.set.high) ≡ length (members_in m) - 0 = omega (arith, members_length m) in
+      values_of e (tags_of m.set.low m.set.high) m.values.now ∙ ap (λ (n : ℕ). values_ok_lem e n m.values.now) n
 
-    pub values_stop : b ≡ false → false ≡ all_of
-    values_stop h = sym (next ∙ rw (sym o ∙ h) refl)
+  pub value_inside : (n : ℕ) → n ≡ length (members_in m) → (i : ℕ) → i < n → value_width * i + value_width ≤ length m.values.now
+  value_inside n e i h = omega (arith, members_length m, m.inside)
 
-    pub values_again : b ≡ true → all_of ≡ values_ok e (n - (i + 1)) (drop (at + value_width * (i + 1)) t)
-    values_again h =
-        let left : n - i - 1 ≡ n - (i + 1) = omega arith in
-        let place : at + value_width * i + value_width ≡ at + value_width * (i + 1) = omega arith in
-        next ∙ rw (sym o ∙ h, left, place) refl
+  module _ (all_of : Bool) (i : ℕ) (inv : all_of ≡ left_of i) where
+    pub values_done : length (members_in m) ≤ i → true ≡ all_of
+    unfolding values_ok_lem
+    values_done h = let z : length (members_in m) - i ≡ 0 = omega arith in sym (inv ∙ ap (λ (n : ℕ). values_ok_lem e n (drop (value_width * i) m.values.now)) z)
 
--- ---- kind 9
+    module _ (more : i < length (members_in m)) (b : Bool) (o : b ≡ side_ok e (value_at (value_width * i) m.values.now)) where
+      next : all_of ≡ (side_ok e (value_at (value_width * i) m.values.now) && values_ok_lem e (length (members_in m) - i - 1) (drop (value_width * i + value_width) m.values.now))
+      next = inv ∙ values_next e m.values.now (value_width * i) (length (members_in m) - i) (omega arith)
 
-module _ (t : List ℕ) (v : Bool) where
-  -- a tag and an exchanged value
-  abbrev pub exchange_head : Bool
-  exchange_head = tag_ok (get_or t tag_place 0) && exchanged_ok (value_in t)
+      pub values_stop : b ≡ false → false ≡ all_of
+      values_stop h = sym (next ∙ rw (sym o ∙ h) refl)
 
-  module _ (at : ℕ) (a : at ≡ (row_at t).value) where
-    value_is : value_at at t ≡ value_in t
-    unfolding value_in
-    value_is = ap (λ (n : ℕ). value_at n t) a
-
-    pub exchange_then : get_or t tag_place 0 ≤ 63 → (b : Bool) → b ≡ side_ok true (value_at at t) → v ≡ b → v ≡ exchange_head
-    unfolding side_ok tag_ok
-    exchange_then tag b o e = e ∙ o ∙ ap exchanged_ok value_is ∙ rw (le-leb (get_or t tag_place 0) 63 tag) refl
-
-    module _ (h : v ≡ exchange_head) where
-      pub exchange_deletion : v ≡ true → (d : Bool) → d ≡ is_deletion (value_at at t) → not d ≡ fields_ok Exchange t
-      unfolding fields_ok
-      exchange_deletion y d f = rw (sym h ∙ y, f ∙ ap is_deletion value_is) refl
-
-      pub exchange_other : v ≡ false → v ≡ fields_ok Exchange t
-      unfolding fields_ok
-      exchange_other y = rw (sym h ∙ y) y
-
-  pub exchange_else : 63 < get_or t tag_place 0 → v ≡ leb (get_or t tag_place 0) 63 → v ≡ exchange_head
-  unfolding tag_ok
-  exchange_else tag e = e ∙ rw (lt-leb (get_or t tag_place 0) 63 tag) refl
+      pub values_again : b ≡ true → all_of ≡ left_of (i + 1)
+      values_again h =
+          let left : length (members_in m) - i - 1 ≡ length (members_in m) - (i + 1) = omega arith in
+          let place : value_width * i + value_width ≡ value_width * (i + 1) = omega arith in
+          next ∙ rw (sym o ∙ h, left, place) refl

@@ -12,7 +12,6 @@ use lib.ListN.{length, get_or}
 use Rattle.request.specs.Table.{IndexField, longest_of, longest_count}
 use Rattle.request.specs.Request.{row_at, last_index, index_in, index_ok}
 use Rattle.request.specs.Rows.{index_layout, layout}
-use Rattle.request.specs.Fields.{index_field, index_at}
 use Rattle.request.specs.declared.table.Row.{Row as CodeRow}
 use Rattle.request.specs.declared.table.IndexField.{IndexField as CodeIndexField}
 use Rattle.request.proofs.TableRule.{place_of}
@@ -22,11 +21,6 @@ none_ok : (i : Maybe IndexField) (t : List ℕ) → index_layout i ≡ None → 
 unfolding index_layout index_in
 none_ok none t e = refl
 none_ok (some f) t e = absurd (let z : ◌≡◌ {A = ℕ} 0 1 = cc in omega arith)
-
-none_field : (i : Maybe IndexField) (t : List ℕ) → index_layout i ≡ None → 0 ≡ index_field i t
-unfolding index_layout index_field
-none_field none t e = refl
-none_field (some f) t e = absurd (let z : ◌≡◌ {A = ℕ} 0 1 = cc in omega arith)
 
 some_is : (f : IndexField) (x : CodeIndexField) → index_layout (some f) ≡ Some x → ◌≡◌ {A = CodeIndexField} (record { place = f.place; last = last_index f.purpose }) x
 unfolding index_layout
@@ -40,11 +34,6 @@ some_ok : (i : Maybe IndexField) (t : List ℕ) (x : CodeIndexField) → index_l
 unfolding index_in
 some_ok none t x e = absurd (let z : ◌≡◌ {A = ℕ} 0 1 = none_some x e in omega arith)
 some_ok (some f) t x e = sym (ap (λ (y : CodeIndexField). leb (get_or t y.place 0) y.last) (some_is f x e))
-
-some_field : (i : Maybe IndexField) (t : List ℕ) (x : CodeIndexField) → index_layout i ≡ Some x → get_or t x.place 0 ≡ index_field i t
-unfolding index_field
-some_field none t x e = absurd (let z : ◌≡◌ {A = ℕ} 0 1 = none_some x e in omega arith)
-some_field (some f) t x e = sym (ap (λ (y : CodeIndexField). get_or t y.place 0) (some_is f x e))
 
 some_place : (i : Maybe IndexField) (x : CodeIndexField) → index_layout i ≡ Some x → place_of i ≡ x.place
 unfolding place_of
@@ -60,18 +49,10 @@ module _ (t : List ℕ) (row : CodeRow) (e : row ≡ layout (row_at t)) where
     unfolding index_ok
     no_index = none_ok (row_at t).index t (sym layout_is ∙ n)
 
-    pub index_none : 0 ≡ index_at t
-    unfolding index_at
-    index_none = none_field (row_at t).index t (sym layout_is ∙ n)
-
   module _ (x : CodeIndexField) (f : row.index ≡ Some x) where
     pub index_test : leb (get_or t x.place 0) x.last ≡ index_ok t
     unfolding index_ok
     index_test = some_ok (row_at t).index t x (sym layout_is ∙ f)
-
-    pub index_there : get_or t x.place 0 ≡ index_at t
-    unfolding index_at
-    index_there = some_field (row_at t).index t x (sym layout_is ∙ f)
 
     place_le : x.place ≤ (row_at t).fixed
     place_le = omega (arith, some_place (row_at t).index x (sym layout_is ∙ f), (row_at_bounds t).place_le)

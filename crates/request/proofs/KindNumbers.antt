@@ -75,3 +75,8 @@ number_small GroupRemove = omega arith
 number_small GroupFetch = omega arith
 number_small GroupSize = omega arith
 number_small Finalize = omega arith
+
+-- The row of a request, by its kind.
+pub row_by_kind : (t : List ℕ) → kind_at t < 16 → row_at t ≡ row_of (number_of (row_at t).kind)
+unfolding row_at kind_at
+row_by_kind t h = sym (ap row_of (row_number (kind_at t) h))

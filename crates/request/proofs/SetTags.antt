@@ -6,8 +6,8 @@ use native.Mathlib.Nat.{le_refl, zero-add, mod-eq_of_lt, one-mul, pow-suc, add-z
 use native.Mathlib.Decide.{dec_le, ℕ_discrete}
 use native.Mathlib.Omega.{arith}
 use lib.Arith.{lt-one}
-use lib.Count.{ones, ones-le, ones_step, count_trailing_zeros, trailing_of_zero}
-use lib.ListN.{length, get_or, drop, length-append}
+use lib.Count.{ones, ones-le, ones_step, count_trailing_zeros}
+use lib.ListN.{length, length-append}
 use lib.Pow.{pow_mono}
 use Rattle.types.specs.Response.{most_tags}
 use Rattle.request.specs.Set.{tags_from, tags_of}
@@ -130,24 +130,11 @@ module _ (low high : ℕ) (l : low < 2 ^ 32) (h : high < 2 ^ 32) where
   unfolding tags_of
   tags_empty z y = let e : low ≡ 0 = omega arith in let f : high ≡ 0 = omega arith in rw (e, f, tags_none 32 0, tags_none 32 32) refl
 
-  pub first_low : 0 < low → count_trailing_zeros 32 low ≡ get_or (tags_of low high) 0 most_tags
-  first_low p = rw (tags_low p) refl
+  pub split_low : 0 < low → (r : ℕ) → r ≡ low - 2 ^ count_trailing_zeros 32 low → tags_of low high ≡ count_trailing_zeros 32 low ∷ tags_of r high
+  split_low p r e = rw e (tags_low p)
 
-  pub first_high : low ≤ 0 → 32 + count_trailing_zeros 32 high ≡ get_or (tags_of low high) 0 most_tags
-  first_high z = go (dec_le high 0)
-    where
-      go : Dec (high ≤ 0) → 32 + count_trailing_zeros 32 high ≡ get_or (tags_of low high) 0 most_tags
-      go (yes y) = let f : high ≡ 0 = omega arith in rw (tags_empty z y, f, trailing_of_zero 32) refl
-      go (no y) = rw (tags_high z (omega arith)) refl
-
-  pub rest_low : 0 < low → (r : ℕ) → r ≡ low - 2 ^ count_trailing_zeros 32 low → tags_of r high ≡ drop 1 (tags_of low high)
-  rest_low p r e = rw (tags_low p, e) refl
-
-  pub rest_high : low ≤ 0 → 0 < high → (r : ℕ) → r ≡ high - 2 ^ count_trailing_zeros 32 high → tags_of low r ≡ drop 1 (tags_of low high)
-  rest_high z p r e = rw (tags_high z p, e) refl
-
-  pub rest_empty : low ≤ 0 → high ≤ 0 → tags_of low high ≡ drop 1 (tags_of low high)
-  rest_empty z y = rw (tags_empty z y) refl
+  pub split_high : low ≤ 0 → 0 < high → (r : ℕ) → r ≡ high - 2 ^ count_trailing_zeros 32 high → tags_of low high ≡ (32 + count_trailing_zeros 32 high) ∷ tags_of low r
+  split_high z p r e = rw e (tags_high z p)
 
 -- Every tag of a list is at least t, or below t; each is above those before it.
 unfoldable pub AtLeast : ℕ → List ℕ → Type 0
@@ -237,14 +224,3 @@ pub tags_length_le : (low high : ℕ) → length (tags_of low high) ≤ most_tag
 unfolding tags_of
 tags_length_le low high =
     omega (arith, length-append (tags_from 32 0 low) (tags_from 32 32 high), from_length 32 0 low, from_length 32 32 high)
-
--- ---- the first tag
-
-first_out : (ts : List ℕ) → Below most_tags ts → most_tags ≤ get_or ts 0 most_tags → ts ≡ []
-unfolding Below
-first_out [] b h = refl
-first_out (t ∷ ts) b h = absurd (omega (arith, b.0))
-
--- `Set::first` answers 64 only for the empty set.
-pub first_none : (low high : ℕ) → most_tags ≤ get_or (tags_of low high) 0 most_tags → tags_of low high ≡ []
-first_none low high h = first_out (tags_of low high) (tags_below low high) h

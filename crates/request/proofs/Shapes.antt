@@ -8,12 +8,12 @@ use native.Mathlib.Omega.{arith}
 use lib.Dec.{eqb}
 use lib.ListN.{length, get_or}
 use borrow.Author.Tests.{le-leb, lt-leb, lt-ltb, le-ltb, eq-eqb, ne_eqb}
-use Rattle.types.specs.Response.{most_tags, kind_in, count_in}
+use Rattle.types.specs.Response.{most_tags, set_width, kind_in, count_in}
 use Rattle.request.specs.Table.{Kind, number_of, kind_of, alone, by_set, by_count, absent, row_of, longest_of, longest_count}
 use Rattle.request.specs.Set.{tags_of}
-use Rattle.request.specs.Request.{row_at, count_of, tags_at, tags_by, tags, tail_ok, tail_length, count_ok, shape_ok}
+use Rattle.request.specs.Request.{row_at, count_of, tags_at, tail_ok, tail_length, count_ok, shape_ok}
 use Rattle.request.specs.Rows.{tail_layout, layout}
-use Rattle.request.specs.Fields.{kind_at, head_at, set_of, set_by, set_at}
+use Rattle.request.specs.Fields.{kind_at, head_at, set_of}
 use Rattle.request.specs.declared.set.Set.{Set}
 use Rattle.request.specs.declared.head.Head.{Head}
 use Rattle.request.specs.declared.table.Row.{Row as CodeRow}
@@ -21,7 +21,7 @@ use Rattle.request.proofs.SetTags.{tags_length_le}
 use Rattle.request.proofs.TableRule.{Bounds, row_bounds}
 use Rattle.request.specs.declared.table.Tail.TheVariants.{Alone, BySet, ByCount, Absent}
 use Rattle.request.proofs.KindNumbers.{number_back}
-use Rattle.request.proofs.TableTails.{alone_told, set_told, counted_told, absent_told, set_by_none, tags_by_set_by, set_held, counter_held, set_longest, counted_longest}
+use Rattle.request.proofs.TableTails.{alone_told, set_told, counted_told, absent_told, set_held, counter_held, set_longest, counted_longest}
 
 -- Four bits hold a kind.
 pub kind_lt : (w kind : ℕ) → w < 2 ^ 32 → kind ≡ kind_in w → kind < 16
@@ -43,10 +43,6 @@ head_is t few kind count row k c r =
     let q : row ≡ layout (row_of (kind_in (get_or t 0 0))) = r ∙ ap (λ (m : ℕ). layout (row_of m)) n in
     λ i. record { kind = k i; count = c i; row = q i }
 
-pub tags_set_at : (t : List ℕ) → tags_of (set_at t).low (set_at t).high ≡ tags t
-unfolding set_at tags
-tags_set_at t = tags_by_set_by (row_at t).tail (row_at t).fixed t
-
 pub has_key : (t : List ℕ) → (row_at t).fixed < length t → 1 < length t
 has_key t h = omega (arith, (row_at_bounds t).fixed_pos)
 
@@ -67,17 +63,9 @@ module _ (t : List ℕ) (row : CodeRow) (e : row ≡ layout (row_at t)) where
   unfolding longest_of
   fixed_few = omega (arith, fixed_is, (row_at_bounds t).longest_le)
 
-  pub set_none : ((each : ℕ) → row.tail ≡ BySet each → ⊥) → set_of 0 0 ≡ set_at t
-  unfolding set_at
-  set_none z = set_by_none (row_at t).tail (row_at t).fixed t (λ each f. z each (tail_is ∙ f))
-
   module _ (each : ℕ) (by-set : row.tail ≡ BySet each) where
     is_set : (row_at t).tail ≡ by_set each
     is_set = set_told (row_at t).tail each (sym tail_is ∙ by-set)
-
-    pub set_words_lem : set_of (get_or t (row.fixed - 1) 0) (get_or t row.fixed 0) ≡ set_at t
-    unfolding set_at set_by
-    set_words_lem = rw (fixed_is, is_set) refl
 
     pub set_inside : 2 ≤ row.fixed
     set_inside = omega (arith, fixed_is, set_held each (row_at t).fixed (rw is_set at (row_at_bounds t).tail_held))
@@ -90,8 +78,11 @@ module _ (t : List ℕ) (row : CodeRow) (e : row ≡ layout (row_at t)) where
     counter_le = omega (arith, fixed_is, counter_held place most each (row_at t).fixed (rw is_counted at (row_at_bounds t).tail_held))
 
   module _ (whole : (row_at t).fixed < length t) where
-    pub fixed_inside : row.fixed < length t
+    fixed_inside : row.fixed < length t
     fixed_inside = omega (arith, fixed_is)
+
+    pub set_room : (each : ℕ) → row.tail ≡ BySet each → row.fixed - 1 + set_width ≤ length t
+    set_room each f = omega (arith, set_inside each f, fixed_inside)
 
     pub counter_inside : (place most each : ℕ) → row.tail ≡ ByCount place most each → place < length t
     counter_inside place most each f = omega (arith, counter_le place most each f, fixed_inside)
@@ -125,12 +116,16 @@ module _ (t : List ℕ) (head : Head) (e : head ≡ head_at t) where
       let is : (row_at t).tail ≡ alone = alone_told (row_at t).tail (sym (tail_is t head.row row_of_lem) ∙ f) in
       rw (count_is, fixed_is t head.row row_of_lem, is, add-zero) refl
 
-  module _ (each : ℕ) (by-set : head.row.tail ≡ BySet each) (set : Set) (s : set ≡ set_at t) (n : ℕ) (l : n ≡ length (tags_of set.low set.high)) where
+  module _ (each : ℕ) (by-set : head.row.tail ≡ BySet each) (set : Set) (s : set ≡ set_of (get_or t (head.row.fixed - 1) 0) (get_or t (head.row.fixed - 1 + 1) 0)) (n : ℕ) (l : n ≡ length (tags_of set.low set.high)) where
     is_tail : (row_at t).tail ≡ by_set each
     is_tail = is_set t head.row row_of_lem each by-set
 
-    tags_are : n ≡ length (tags t)
-    tags_are = l ∙ ap (λ (x : Set). length (tags_of x.low x.high)) s ∙ ap length (tags_set_at t)
+    tags_are : n ≡ length (tags_at (row_at t).fixed t)
+    unfolding tags_at
+    tags_are =
+        let last : head.row.fixed - 1 + 1 ≡ (row_at t).fixed = omega (arith, set_inside t head.row row_of_lem each by-set, fixed_is t head.row row_of_lem) in
+        let first : head.row.fixed - 1 ≡ (row_at t).fixed - 1 = omega (arith, fixed_is t head.row row_of_lem) in
+        l ∙ ap (λ (x : Set). length (tags_of x.low x.high)) s ∙ rw (last, first) refl
 
     pub set_fits : head.row.fixed + each * n ≤ longest_count
     unfolding longest_of
@@ -140,10 +135,8 @@ module _ (t : List ℕ) (head : Head) (e : head ≡ head_at t) where
         omega (arith, fixed_is t head.row row_of_lem, set_longest each n few, longest)
 
     pub counts_set : eqb head.count (head.row.fixed + each * n) ≡ count_ok (row_at t).tail (row_at t).fixed t
-    unfolding count_ok tail_ok tail_length tags tags_by
-    counts_set =
-        let m : n ≡ length (tags_at (row_at t).fixed t) = rw is_tail at tags_are in
-        rw (count_is, fixed_is t head.row row_of_lem, is_tail, m) refl
+    unfolding count_ok tail_ok tail_length
+    counts_set = rw (count_is, fixed_is t head.row row_of_lem, is_tail, tags_are) refl
 
   module _ (place most each : ℕ) (by-count : head.row.tail ≡ ByCount place most each) where
     counted_tail : (row_at t).tail ≡ by_count place most each

@@ -37,19 +37,19 @@ index_cells (some f) = go f.purpose where
 
 -- The row that its cells make.
 module _ (k : ℕ) (c : Cells) (e : c ≡ cells_of (row_of k)) where
-  row_with : (i : Option CodeIndexField) → i ≡ index_from c.3 c.4
-      → ◌≡◌ {A = CodeRow} (record { fixed = c.0; tail = c.1; value = c.2; index = i }) (layout (row_of k))
+  row_with : (i : Option CodeIndexField) → i ≡ index_from c.2 c.3
+      → ◌≡◌ {A = CodeRow} (record { fixed = c.0; tail = c.1; index = i }) (layout (row_of k))
   row_with i g =
-      let f : i ≡ index_layout (row_of k).index = g ∙ ap (λ (x : Cells). index_from x.3 x.4) e ∙ index_cells (row_of k).index in
-      λ j. record { fixed = (e j).0; tail = (e j).1; value = (e j).2; index = f j }
+      let f : i ≡ index_layout (row_of k).index = g ∙ ap (λ (x : Cells). index_from x.2 x.3) e ∙ index_cells (row_of k).index in
+      λ j. record { fixed = (e j).0; tail = (e j).1; index = f j }
 
-  pub row_without : (i : Option CodeIndexField) → c.3 ≡ None → i ≡ None
-      → ◌≡◌ {A = CodeRow} (record { fixed = c.0; tail = c.1; value = c.2; index = i }) (layout (row_of k))
+  pub row_without : (i : Option CodeIndexField) → c.2 ≡ None → i ≡ None
+      → ◌≡◌ {A = CodeRow} (record { fixed = c.0; tail = c.1; index = i }) (layout (row_of k))
   unfolding index_from
   row_without i n g = row_with i (rw n g)
 
-  pub row_indexed : (i : Option CodeIndexField) (place : ℕ) → c.3 ≡ Some place → i ≡ Some (record { place = place; last = 4294967295 - c.4 })
-      → ◌≡◌ {A = CodeRow} (record { fixed = c.0; tail = c.1; value = c.2; index = i }) (layout (row_of k))
+  pub row_indexed : (i : Option CodeIndexField) (place : ℕ) → c.2 ≡ Some place → i ≡ Some (record { place = place; last = 4294967295 - c.3 })
+      → ◌≡◌ {A = CodeRow} (record { fixed = c.0; tail = c.1; index = i }) (layout (row_of k))
   unfolding index_from
   row_indexed i place n g = row_with i (rw n g)
 

@@ -1,7 +1,7 @@
 -- The tail of a kind, as the code has it.
 use mathlib.Core.Path.{◌≡◌, refl}
 use mathlib.Core.Bool.{true}
-use mathlib.Core.List.{List, []}
+use mathlib.Core.List.{List}
 use Prim.Native.Nat.{ℕ, ◌-◌, ◌*◌, ◌≤◌}
 use native.Mathlib.Nat.{mul-le-mul, le_refl}
 use native.Mathlib.Omega.{arith}
@@ -9,13 +9,11 @@ use lib.ListN.{get_or}
 use borrow.Author.Tests.{leb-true}
 use Rattle.types.specs.Response.{set_width, most_tags}
 use Rattle.request.specs.Table.{Tail, alone, by_set, by_count, absent, longest_tail}
-use Rattle.request.specs.Set.{tags_of}
-use Rattle.request.specs.Request.{tags_at, tags_by, tail_length, tail_ok}
+use Rattle.request.specs.Request.{tags_at, tail_length, tail_ok}
 use Rattle.request.specs.Rows.{tail_layout}
-use Rattle.request.specs.Fields.{set_of, set_by}
 use Rattle.request.specs.declared.table.Tail.TheVariants.{Alone, BySet, ByCount, Absent}
 use Rattle.request.proofs.TableRule.{holds_tail}
-use Rattle.request.proofs.SetTags.{tags_empty, tags_length_le}
+use Rattle.request.proofs.SetTags.{tags_length_le}
 
 -- ---- which tail it is
 
@@ -46,25 +44,6 @@ absent_told alone e = absurd (let z : ◌≡◌ {A = ℕ} 0 1 = cc in omega arit
 absent_told (by_set each) e = absurd (let z : ◌≡◌ {A = ℕ} 0 1 = cc in omega arith)
 absent_told (by_count place most each) e = absurd (let z : ◌≡◌ {A = ℕ} 0 1 = cc in omega arith)
 absent_told absent e = refl
-
--- ---- the set
-
-pub set_by_none : (w : Tail) (fixed : ℕ) (t : List ℕ) → ((each : ℕ) → tail_layout w ≡ BySet each → ⊥) → set_of 0 0 ≡ set_by w fixed t
-unfolding tail_layout set_by
-set_by_none alone fixed t h = refl
-set_by_none (by_set each) fixed t h = absurd (h each refl)
-set_by_none (by_count place most each) fixed t h = refl
-set_by_none absent fixed t h = refl
-
-tags_of_none : tags_of 0 0 ≡ []
-tags_of_none = tags_empty 0 0 (omega arith) (omega arith) (omega arith) (omega arith)
-
-pub tags_by_set_by : (w : Tail) (fixed : ℕ) (t : List ℕ) → tags_of (set_by w fixed t).low (set_by w fixed t).high ≡ tags_by w fixed t
-unfolding set_by tags_by tags_at
-tags_by_set_by alone fixed t = tags_of_none
-tags_by_set_by (by_set each) fixed t = refl
-tags_by_set_by (by_count place most each) fixed t = tags_of_none
-tags_by_set_by absent fixed t = tags_of_none
 
 -- ---- the count
 

@@ -21,7 +21,7 @@ tail_layout (by_count place most each) = ByCount place most each
 tail_layout absent = Absent
 
 abbrev pub layout : Row → CodeRow
-layout r = record { fixed = r.fixed; tail = tail_layout r.tail; value = r.value; index = index_layout r.index }
+layout r = record { fixed = r.fixed; tail = tail_layout r.tail; index = index_layout r.index }
 
 unfoldable pub index_place_cell : Maybe IndexField → Option ℕ
 index_place_cell none = None
@@ -34,4 +34,4 @@ added_to (some f) = 4294967295 - last_index f.purpose
 
 -- A row as the cells of the code's table.
 abbrev pub cells_of : Row → Cells
-cells_of r = record { 0 = r.fixed; 1 = tail_layout r.tail; 2 = r.value; 3 = index_place_cell r.index; 4 = added_to r.index }
+cells_of r = record { 0 = r.fixed; 1 = tail_layout r.tail; 2 = index_place_cell r.index; 3 = added_to r.index }

@@ -1,68 +1,169 @@
-// What a request asks: the fields that are single words, and where its value begins.
+// What a request asks.
 ghost use Rattle.std.specs.Prelude.{◌≡◌, ◌<◌, length};
-ghost use Rattle.request.specs.Table.{number_of};
-ghost use Rattle.request.specs.Request.{row_at};
-ghost use Rattle.request.specs.Fields.{kind_at, head_at, set_at, incarnation_as, tag_as, fields_at};
+ghost use Rattle.request.specs.Table.{number_of, row_of};
+ghost use Rattle.request.specs.Fields.{asked_as};
 
-use super::head::Head;
-use super::index;
 use super::kind::Kind;
+use super::places::{
+    BASE_SET, BASE_VALUE, BASE_VALUES, DELTA, EXCHANGE_VALUE, INCARNATION, INDEX, KEY, TAG,
+    TAGGED_INDEX, WRITE_SET, WRITE_VALUE, WRITE_VALUES,
+};
 use super::set::Set;
 
-// The place of the key, and those of an incarnation and of a tag, in the kinds that have one.
-const KEY: usize = 1;
-
-const INCARNATION: usize = 3;
-
-pub const TAG: usize = 2;
-
-// A field that the kind does not have is 0. Values and deltas stay in the words of the request: `value` is where they begin.
+// A request by its kind, with the fields that the kind has. Values and deltas stay in the words of the request: the field is the place where they begin.
 #[derive(Clone, Copy)]
-pub struct Fields {
-    pub kind: Kind,
-    pub key: u32,
-    pub index: u32,
-    pub incarnation: u32,
-    pub tag: u32,
-    pub value: usize,
-    pub set: Set,
+pub enum Request {
+    LastCommitted {
+        key: u32,
+    },
+    Base {
+        key: u32,
+        value: usize,
+    },
+    Write {
+        key: u32,
+        index: u32,
+        incarnation: u32,
+        value: usize,
+    },
+    AddDelta {
+        key: u32,
+        index: u32,
+        delta: usize,
+    },
+    Estimate {
+        key: u32,
+        index: u32,
+    },
+    Remove {
+        key: u32,
+        index: u32,
+    },
+    Fetch {
+        key: u32,
+        index: u32,
+    },
+    Materialize {
+        key: u32,
+        index: u32,
+    },
+    GroupBase {
+        key: u32,
+        set: Set,
+        values: usize,
+    },
+    Exchange {
+        key: u32,
+        tag: u32,
+        value: usize,
+    },
+    GroupWrite {
+        key: u32,
+        index: u32,
+        incarnation: u32,
+        set: Set,
+        values: usize,
+    },
+    GroupEstimate {
+        key: u32,
+        index: u32,
+    },
+    GroupRemove {
+        key: u32,
+        index: u32,
+    },
+    GroupFetch {
+        key: u32,
+        tag: u32,
+        index: u32,
+    },
+    GroupSize {
+        key: u32,
+        index: u32,
+    },
+    Finalize {
+        key: u32,
+        index: u32,
+    },
 }
 
-fn incarnation_of(t: &[u32], kind: Kind) -> u32
-    requires kind { number_of kind ≡ kind_at t.now }
-    requires whole { (row_at t.now).fixed < length t.now }
-    ensures incarnation { result ≡ incarnation_as (kind_at t.now) t.now }
+// The request of a kind whose fixed words are there.
+#[tactic(auto, unfolding(crate::specs::Fields::asked_as, crate::specs::Fields::set_in, crate::specs::Table::row_of, crate::specs::Table::table, crate::specs::Table::row))]
+pub fn request_of(t: &[u32], kind: Kind) -> Request
+    requires whole { (row_of (number_of kind)).fixed < length t.now }
+    ensures asked { result ≡ asked_as kind (row_of (number_of kind)) t.now }
 {
+    let key = t[KEY];
     match kind {
-        Kind::Write | Kind::GroupWrite => t[INCARNATION],
-        _ => 0,
-    }
-}
-
-fn tag_of(t: &[u32], kind: Kind) -> u32
-    requires kind { number_of kind ≡ kind_at t.now }
-    requires whole { (row_at t.now).fixed < length t.now }
-    ensures tag { result ≡ tag_as (kind_at t.now) t.now }
-{
-    match kind {
-        Kind::Exchange | Kind::GroupFetch => t[TAG],
-        _ => 0,
-    }
-}
-
-pub fn fields_of(t: &[u32], head: Head, set: Set) -> Fields
-    requires head { head ≡ head_at t.now }
-    requires set { set ≡ set_at t.now }
-    requires whole { (row_at t.now).fixed < length t.now }
-    ensures fields { result ≡ fields_at t.now }
-{
-    Fields {
-        kind: head.kind,
-        key: t[KEY],
-        index: index::index_of(t, head.row),
-        incarnation: incarnation_of(t, head.kind),
-        tag: tag_of(t, head.kind),
-        value: head.row.value,
-        set,
+        Kind::LastCommitted => Request::LastCommitted { key },
+        Kind::Base => Request::Base {
+            key,
+            value: BASE_VALUE,
+        },
+        Kind::Write => Request::Write {
+            key,
+            index: t[INDEX],
+            incarnation: t[INCARNATION],
+            value: WRITE_VALUE,
+        },
+        Kind::AddDelta => Request::AddDelta {
+            key,
+            index: t[INDEX],
+            delta: DELTA,
+        },
+        Kind::Estimate => Request::Estimate {
+            key,
+            index: t[INDEX],
+        },
+        Kind::Remove => Request::Remove {
+            key,
+            index: t[INDEX],
+        },
+        Kind::Fetch => Request::Fetch {
+            key,
+            index: t[INDEX],
+        },
+        Kind::Materialize => Request::Materialize {
+            key,
+            index: t[INDEX],
+        },
+        Kind::GroupBase => Request::GroupBase {
+            key,
+            set: Set::read(t, BASE_SET),
+            values: BASE_VALUES,
+        },
+        Kind::Exchange => Request::Exchange {
+            key,
+            tag: t[TAG],
+            value: EXCHANGE_VALUE,
+        },
+        Kind::GroupWrite => Request::GroupWrite {
+            key,
+            index: t[INDEX],
+            incarnation: t[INCARNATION],
+            set: Set::read(t, WRITE_SET),
+            values: WRITE_VALUES,
+        },
+        Kind::GroupEstimate => Request::GroupEstimate {
+            key,
+            index: t[INDEX],
+        },
+        Kind::GroupRemove => Request::GroupRemove {
+            key,
+            index: t[INDEX],
+        },
+        Kind::GroupFetch => Request::GroupFetch {
+            key,
+            tag: t[TAG],
+            index: t[TAGGED_INDEX],
+        },
+        Kind::GroupSize => Request::GroupSize {
+            key,
+            index: t[INDEX],
+        },
+        Kind::Finalize => Request::Finalize {
+            key,
+            index: t[INDEX],
+        },
     }
 }

@@ -6,20 +6,12 @@ ghost use Rattle.request.specs.Request.{row_at, shape_ok, fields_ok, refusal_of}
 ghost use Rattle.request.specs.Fields.{kind_at};
 
 use super::kind::Kind;
+use super::places::{BASE_VALUE, DELTA, INDEX, WRITE_VALUE};
 use super::table;
 use super::table::LARGEST;
 use delta::words;
 use types::refusal::Refusal;
 use types::{response, value};
-
-// The places of the index, of the values of a base and of a write, and of a delta.
-const INDEX: usize = 2;
-
-const BASE_VALUE: usize = 2;
-
-const WRITE_VALUE: usize = 4;
-
-const DELTA: usize = 3;
 
 // The fields of kinds 1 to 3: a value, an exchanged value, a delta. Those of the others are free.
 fn fields_ok(t: &[u32], kind: Kind) -> bool
@@ -58,7 +50,7 @@ pub fn data_refusal(t: &[u32], kind: Kind) -> Result<(), Refusal>
 {
     let cells = table::cells_of(kind);
     let fixed = cells.0 as usize;
-    let last = LARGEST - cells.4 as u32;
+    let last = LARGEST - cells.3 as u32;
     if t.len() != fixed + 1 {
         return Err(Refusal::WrongCount);
     }

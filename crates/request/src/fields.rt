@@ -1,68 +1,68 @@
 // Refusal 3: whether each field of a request keeps its rule.
-ghost use Rattle.std.specs.Prelude.{◌≡◌, true, ◌+◌, ◌*◌, ◌≤◌, ◌<◌, length, drop};
-ghost use Rattle.types.specs.Value.{value_width, value_at};
-ghost use Rattle.request.specs.Table.{Exchange, tag_place};
-ghost use Rattle.request.specs.Request.{row_at, shape_ok, fields_ok};
-ghost use Rattle.request.specs.Fields.{head_at, set_at, side_ok, values_ok};
+ghost use Rattle.std.specs.Prelude.{◌≡◌, not, ◌&&◌};
+ghost use Rattle.types.specs.Value.{is_deletion};
+ghost use Rattle.types.specs.ValueWithLayout.{words_of};
+ghost use Rattle.request.specs.Members.{members_in};
+ghost use Rattle.request.specs.Request.{all, exchanged_ok, tag_ok};
+ghost use Rattle.request.specs.Fields.{side_ok, RoomIn, rule_in};
 
-use super::asked::TAG;
-use super::head::Head;
-use super::kind::Kind;
-use super::set::Set;
+use super::asked::Request;
+use super::members::{Members, read_value};
 use delta::words;
 use types::value;
 use types::value::{VALUE_WIDTH, ValueWithLayout};
 
 const LAST_TAG: u32 = 63;
 
-// A value at `at` that keeps its rule, and is exchanged, or raw.
-fn side_ok(t: &[u32], at: usize, exchanged: bool) -> bool
-    requires inside { at + value_width ≤ length t.now }
-    ensures rule { result ≡ side_ok exchanged (value_at at t.now) }
+// A value that keeps its rule, and is exchanged, or raw.
+#[tactic(auto, unfolding(crate::specs::Fields::side_ok, crate::specs::Request::exchanged_ok, crate::specs::Request::raw_ok))]
+fn side_ok(v: ValueWithLayout, exchanged: bool) -> bool
+    ensures rule { result ≡ side_ok exchanged (words_of v) }
 {
-    let v = ValueWithLayout::read(t, at);
     v.ok() && v.is_exchanged() == exchanged
 }
 
-// The `n` values from `at` on.
-fn values_ok(t: &[u32], at: usize, n: usize, exchanged: bool) -> bool
-    requires inside { at + value_width * n ≤ length t.now }
-    ensures rule { result ≡ values_ok exchanged n (drop at t.now) }
+// The values of a set.
+fn values_ok(members: Members, exchanged: bool) -> bool
+    ensures rule { result ≡ all (side_ok exchanged) (members_in members.entry) }
 {
-    for i in 0..n {
-        if !side_ok(t, at + VALUE_WIDTH * i, exchanged) {
+    for i in 0..members.len() {
+        let v = read_value(members.values, VALUE_WIDTH * i);
+        if !side_ok(v, exchanged) {
             return false;
         }
     }
     true
 }
 
-// A tag, and an exchanged value at `at` that is no deletion.
-fn exchange_ok(t: &[u32], at: usize) -> bool
-    requires value { at ≡ (row_at t.now).value }
-    requires tag { tag_place < length t.now }
-    requires inside { at + value_width ≤ length t.now }
-    ensures rule { result ≡ fields_ok Exchange t.now }
+// A tag, and an exchanged value that is no deletion.
+#[tactic(auto, unfolding(crate::specs::Fields::side_ok, crate::specs::Request::tag_ok))]
+fn exchange_ok(tag: u32, v: ValueWithLayout) -> bool
+    ensures rule { result ≡ (tag_ok tag && exchanged_ok (words_of v) && not (is_deletion (words_of v))) }
 {
-    t[TAG] <= LAST_TAG && side_ok(t, at, true) && !ValueWithLayout::read(t, at).is_deletion()
+    tag <= LAST_TAG && side_ok(v, true) && !v.is_deletion()
 }
 
 // The rule of the fields, by the kind. The other kinds have only fields that are free.
-pub fn fields_ok(t: &[u32], head: Head, set: Set) -> bool
-    requires shape { shape_ok t.now ≡ true }
-    requires head { head ≡ head_at t.now }
-    requires set { set ≡ set_at t.now }
-    ensures rule { result ≡ fields_ok (row_at t.now).kind t.now }
+#[tactic(auto, unfolding(crate::specs::Fields::RoomIn, crate::specs::Fields::rule_in, crate::specs::Fields::side_ok, crate::specs::Request::tag_ok))]
+pub fn fields_ok(t: &[u32], request: Request) -> bool
+    requires room { RoomIn t.now request }
+    ensures rule { result ≡ rule_in t.now request }
 {
-    let at = head.row.value;
-    match head.kind {
-        Kind::Base => value::value_ok(t, at),
-        Kind::Write => side_ok(t, at, true),
-        Kind::AddDelta => words::is_delta(t, at),
-        Kind::GroupBase => values_ok(t, at, set.len(), false),
-        Kind::Exchange => exchange_ok(t, at),
-        Kind::GroupWrite => values_ok(t, at, set.len(), true),
-        Kind::GroupFetch => t[TAG] <= LAST_TAG,
+    match request {
+        Request::Base { value, .. } => value::value_ok(t, value),
+        Request::Write { value, .. } => side_ok(read_value(t, value), true),
+        Request::AddDelta { delta, .. } => words::is_delta(t, delta),
+        Request::GroupBase { set, values, .. } => {
+            let values = &t[values..];
+            values_ok(Members { set, values }, false)
+        }
+        Request::Exchange { tag, value, .. } => exchange_ok(tag, read_value(t, value)),
+        Request::GroupWrite { set, values, .. } => {
+            let values = &t[values..];
+            values_ok(Members { set, values }, true)
+        }
+        Request::GroupFetch { tag, .. } => tag <= LAST_TAG,
         _ => true,
     }
 }

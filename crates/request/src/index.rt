@@ -2,7 +2,6 @@
 ghost use Rattle.std.specs.Prelude.{◌≡◌, ◌<◌, length};
 ghost use Rattle.request.specs.Request.{row_at, index_ok};
 ghost use Rattle.request.specs.Rows.{layout};
-ghost use Rattle.request.specs.Fields.{index_at};
 
 use super::table::Row;
 
@@ -14,17 +13,5 @@ pub fn index_ok(t: &[u32], row: Row) -> bool
     match row.index {
         Some(field) => t[field.place] <= field.last,
         None => true,
-    }
-}
-
-// The index, or 0 where the kind has none.
-pub fn index_of(t: &[u32], row: Row) -> u32
-    requires row { row ≡ layout (row_at t.now) }
-    requires whole { (row_at t.now).fixed < length t.now }
-    ensures index { result ≡ index_at t.now }
-{
-    match row.index {
-        Some(field) => t[field.place],
-        None => 0,
     }
 }

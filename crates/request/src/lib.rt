@@ -4,7 +4,7 @@
 ghost use Rattle.std.specs.Prelude.{◌≡◌};
 ghost use Rattle.request.specs.Checked.{check_of};
 
-use asked::Fields;
+use asked::Request;
 use types::refusal::Refusal;
 
 pub mod asked;
@@ -13,12 +13,14 @@ pub mod fields;
 pub mod head;
 pub mod index;
 pub mod kind;
+pub mod members;
+pub mod places;
 pub mod set;
 pub mod shape;
 pub mod table;
 
 // The whole check of a request of any words and length: 2, 3 or 4, the lowest that applies. Head and row are decoded once, and handed on.
-pub fn check(t: &[u32]) -> Result<Fields, Refusal>
+pub fn check(t: &[u32]) -> Result<Request, Refusal>
     ensures checked { result ≡ check_of t.now }
 {
     if t.is_empty() {
@@ -28,13 +30,12 @@ pub fn check(t: &[u32]) -> Result<Fields, Refusal>
     if !shape::shape_ok(t, head) {
         return Err(Refusal::WrongCount);
     }
-    let row = head.row;
-    let set = shape::set_at(t, row);
-    if !fields::fields_ok(t, head, set) {
+    let request = asked::request_of(t, head.kind);
+    if !fields::fields_ok(t, request) {
         return Err(Refusal::BadField);
     }
-    if !index::index_ok(t, row) {
+    if !index::index_ok(t, head.row) {
         return Err(Refusal::IndexTooHigh);
     }
-    Ok(asked::fields_of(t, head, set))
+    Ok(request)
 }

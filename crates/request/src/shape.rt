@@ -1,41 +1,25 @@
 // Refusal 2: whether a request has the words that its kind and its tail ask for.
 ghost use Rattle.std.specs.Prelude.{◌≡◌, ◌<◌, length};
 ghost use Rattle.request.specs.Request.{row_at, count_ok, shape_ok};
-ghost use Rattle.request.specs.Rows.{layout};
-ghost use Rattle.request.specs.Fields.{head_at, set_at};
+ghost use Rattle.request.specs.Fields.{head_at};
 
 use super::head::Head;
 use super::set::Set;
-use super::table::{Row, Tail};
+use super::table::Tail;
 
-// The set is the last two of the fixed words.
-pub fn set_at(t: &[u32], row: Row) -> Set
-    requires row { row ≡ layout (row_at t.now) }
-    requires whole { (row_at t.now).fixed < length t.now }
-    ensures set { result ≡ set_at t.now }
-{
-    match row.tail {
-        Tail::BySet(_) => Set {
-            low: t[row.fixed - 1],
-            high: t[row.fixed],
-        },
-        _ => Set { low: 0, high: 0 },
-    }
-}
-
-// Whether the head counts the words of its kind.
+// Whether the head counts the words of its kind. A set is the last two of the fixed words.
 fn count_ok(t: &[u32], head: Head) -> bool
     requires head { head ≡ head_at t.now }
     requires whole { (row_at t.now).fixed < length t.now }
     ensures rule { result ≡ count_ok (row_at t.now).tail (row_at t.now).fixed t.now }
 {
-    let row = head.row;
+    let fixed = head.row.fixed;
     match head.row.tail {
-        Tail::Alone => head.count == row.fixed,
-        Tail::BySet(each) => head.count == row.fixed + each as usize * set_at(t, row).len(),
+        Tail::Alone => head.count == fixed,
+        Tail::BySet(each) => head.count == fixed + each as usize * Set::read(t, fixed - 1).len(),
         Tail::ByCount(place, most, each) => {
             let times = t[place as usize] as usize;
-            times <= most as usize && head.count == row.fixed + each as usize * times
+            times <= most as usize && head.count == fixed + each as usize * times
         }
         Tail::Absent => false,
     }

@@ -1,4 +1,4 @@
-// The sixteen kinds of request: how many words each has, and where its value and its index stand.
+// The sixteen kinds of request: how many words each has, and where its index stands.
 ghost use Rattle.std.specs.Prelude.{◌≡◌};
 ghost use Rattle.request.specs.Table.{number_of, row_of};
 ghost use Rattle.request.specs.Rows.{cells_of, layout};
@@ -32,15 +32,12 @@ pub struct Row {
     // Words after the head, the tail left out.
     pub fixed: usize,
     pub tail: Tail,
-    // The place where the value, the first value or the delta begins, or 0, the head's, where there is none.
-    // Kept: no Option, since each reader knows by the kind that there is one, and would have to open it.
-    pub value: usize,
     pub index: Option<IndexField>,
 }
 
-// A row in bytes, so that the whole table is a few words: `fixed`, the tail, `value`, the place of the index, and how often a request adds to its index.
+// A row in bytes, so that the whole table is a few words: `fixed`, the tail, the place of the index, and how often a request adds to its index.
 #[derive(Clone, Copy)]
-pub struct Cells(pub u8, Tail, u8, Option<u8>, pub u8);
+pub struct Cells(pub u8, Tail, Option<u8>, pub u8);
 
 const VALUE: u8 = VALUE_WIDTH as u8;
 
@@ -53,25 +50,25 @@ pub const LARGEST: u32 = 4294967295;
 // A static stands in memory once; a constant is built anew at each look.
 static TABLE: [Cells; 16] = [
     // 0: last committed
-    Cells(1, Tail::Alone, 0, None, 0),
+    Cells(1, Tail::Alone, None, 0),
     // 1 to 7: base, write, delta, estimate, remove, fetch, materialize
-    Cells(1 + VALUE, Tail::Alone, 2, None, 0),
-    Cells(3 + VALUE, Tail::Alone, 4, Some(2), 1),
-    Cells(19, Tail::Alone, 3, Some(2), 1),
-    Cells(2, Tail::Alone, 0, Some(2), 1),
-    Cells(2, Tail::Alone, 0, Some(2), 1),
-    Cells(2, Tail::Alone, 0, Some(2), 1),
-    Cells(2, Tail::Alone, 0, Some(2), 2),
+    Cells(1 + VALUE, Tail::Alone, None, 0),
+    Cells(3 + VALUE, Tail::Alone, Some(2), 1),
+    Cells(19, Tail::Alone, Some(2), 1),
+    Cells(2, Tail::Alone, Some(2), 1),
+    Cells(2, Tail::Alone, Some(2), 1),
+    Cells(2, Tail::Alone, Some(2), 1),
+    Cells(2, Tail::Alone, Some(2), 2),
     // 8 to 10: group base, exchange, group write
-    Cells(3, VALUES, 4, None, 0),
-    Cells(2 + VALUE, Tail::Alone, 3, None, 0),
-    Cells(5, VALUES, 6, Some(2), 1),
+    Cells(3, VALUES, None, 0),
+    Cells(2 + VALUE, Tail::Alone, None, 0),
+    Cells(5, VALUES, Some(2), 1),
     // 11 to 15: group estimate, remove, fetch, size, finalize
-    Cells(2, Tail::Alone, 0, Some(2), 1),
-    Cells(2, Tail::Alone, 0, Some(2), 1),
-    Cells(3, Tail::Alone, 0, Some(3), 1),
-    Cells(2, Tail::Alone, 0, Some(2), 1),
-    Cells(2, Tail::Alone, 0, Some(2), 1),
+    Cells(2, Tail::Alone, Some(2), 1),
+    Cells(2, Tail::Alone, Some(2), 1),
+    Cells(3, Tail::Alone, Some(3), 1),
+    Cells(2, Tail::Alone, Some(2), 1),
+    Cells(2, Tail::Alone, Some(2), 1),
 ];
 
 // The largest count of words after a head: a group write of all tags.
@@ -87,8 +84,8 @@ pub fn row_of(kind: Kind) -> Row
     ensures row { result ≡ layout (row_of (number_of kind)) }
 {
     let cells = cells_of(kind);
-    let last = LARGEST - cells.4 as u32;
-    let index = match cells.3 {
+    let last = LARGEST - cells.3 as u32;
+    let index = match cells.2 {
         Some(place) => Some(IndexField {
             place: place as usize,
             last,
@@ -98,7 +95,6 @@ pub fn row_of(kind: Kind) -> Row
     Row {
         fixed: cells.0 as usize,
         tail: cells.1,
-        value: cells.2 as usize,
         index,
     }
 }

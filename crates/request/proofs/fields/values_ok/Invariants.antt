@@ -1,9 +1,9 @@
 use mathlib.Core.Path.{◌≡◌}
-use Prim.Native.Nat.{◌+◌, ◌-◌, ◌*◌}
-use lib.ListN.{drop}
-use Rattle.types.specs.Value.{value_width}
-use Rattle.request.specs.Fields.{values_ok}
+use Rattle.request.specs.Members.{members_in}
+use Rattle.request.specs.Request.{all}
+use Rattle.request.specs.Fields.{side_ok}
+use Rattle.request.proofs.FieldRules.{left_of}
 use Rattle.request.proofs.fields.values_ok.Given as goal
 
 abbrev pub invariant-loop-i : goal.invariant-loop-i
-invariant-loop-i l = values_ok l.exchanged l.n (drop l.at l.t) ≡ values_ok l.exchanged (l.n - l.i) (drop (l.at + value_width * l.i) l.t)
+invariant-loop-i l = all (side_ok l.exchanged) (members_in l.members) ≡ left_of l.exchanged l.members l.i
