@@ -15,7 +15,7 @@ use Rattle.slots.specs.Slots.{Slot, slots, slot_at, held, is_used, packed, befor
 use Rattle.types.specs.Units.{units_in}
 use Rattle.slots.specs.Found.{is_there, found_at, is_among}
 use Rattle.std.proofs.Common.{Ok, Err}
-use Rattle.slots.proofs.StoreWords.{slots_at, length_slots}
+use Rattle.slots.proofs.StoreWords.{slots_many, slots_are}
 use Rattle.slots.proofs.StoreEncoding.{held_fits, packed_ordered}
 use Rattle.slots.proofs.SlotOrder.{before_irrefl, before_asym, ordered_across}
 use Rattle.slots.proofs.SlotPlaces.{place_fits, nothing_at, at_level, absent_all, slot_at_held, used_test}
@@ -155,7 +155,7 @@ unused_not_at a ks (suc x ∷ u) h e = absurd (let z : ◌≡◌ {A = ℕ} 0 1 =
 -- a search of a packed store that came to slot i
 module _ (s : List ℕ) (rising : packed s ≡ true) (a b c d : ℕ) (inUse : 0 < a) (i : ℕ) (search : i ≡ place_of (a ∷ b ∷ c ∷ d ∷ []) (held s)) (us : List Slot) (all : us ≡ slots (units_in (length s)) s) where
   many : length us ≡ units_in (length s)
-  many = ap length all ∙ length_slots (units_in (length s)) s
+  many = slots_many s us all
 
   there_slot : is_there (a ∷ b ∷ c ∷ d ∷ []) (held s) ≡ is_at (a ∷ b ∷ c ∷ d ∷ []) (get_or (held s) i [])
   there_slot =
@@ -183,7 +183,7 @@ module _ (s : List ℕ) (rising : packed s ≡ true) (a b c d : ℕ) (inUse : 0 
     tells : is_there (a ∷ b ∷ c ∷ d ∷ []) (held s) ≡ r
     tells =
         sym (at_slot (omega (arith, many)))
-        ∙ ap (is_at (a ∷ b ∷ c ∷ d ∷ [])) (sym (ap (λ (l : List Slot). get_or l i []) all ∙ slots_at (units_in (length s)) i s [] (omega (arith, many))))
+        ∙ ap (is_at (a ∷ b ∷ c ∷ d ∷ [])) (sym (slots_are s us all i [] h))
         ∙ sym e
 
     pub find_there : r ≡ true → Ok i ≡ found_at (a ∷ b ∷ c ∷ d ∷ []) (held s)

@@ -16,7 +16,7 @@ use Rattle.lists.proofs.Bools.{and_left, and_right, true_not_false}
 use Rattle.lists.proofs.Lists.{every_at, every_front, every_imp, every_of, front_take, length_front}
 use Rattle.slots.specs.Slots.{Slot, is_whole, is_used, slots, slot_at, held, packed, encode, before, is_before, same_words, is_at, ordered, place_of}
 use Rattle.types.specs.Units.{units_in}
-use Rattle.slots.proofs.StoreWords.{whole_length, slots_at, length_slots}
+use Rattle.slots.proofs.StoreWords.{whole_length, slots_many, slots_are}
 use Rattle.slots.proofs.StoreEncoding.{held_whole, held_used, held_fits, packed_ordered, encode_held, slot_at_encode, unused_encode}
 use Rattle.slots.proofs.SlotOrder.{before_irrefl, before_trans, Side, lower, level, upper, side, ordered_at}
 use Rattle.slots.proofs.ZeroWords.{same_words_lem, words_same}
@@ -173,11 +173,11 @@ module _ (s : List ℕ) (rising : packed s ≡ true) (i : ℕ) (h : i < units_in
 module _ (p : Slot → Bool) (s : List ℕ) (m : ℕ) (few : m ≤ units_in (length s)) (tells : (i : ℕ) → i < units_in (length s) → p (slot_at i s) ≡ ltb i m) (us : List Slot)
     (all : us ≡ slots (units_in (length s)) s) where
   many : length us ≡ units_in (length s)
-  many = ap length all ∙ length_slots (units_in (length s)) s
+  many = slots_many s us all
 
   tells_at : (i : ℕ) (d : Slot) → i < length us → p (get_or us i d) ≡ ltb i m
   tells_at i d h =
-      ap (λ (l : List Slot). p (get_or l i d)) all ∙ ap p (slots_at (units_in (length s)) i s d (omega (arith, many))) ∙ tells i (omega (arith, many))
+      ap p (slots_are s us all i d h) ∙ tells i (omega (arith, many))
 
   pub parted : IsPartitionedBy p us
   parted i j d l h e = tells_at i d (omega arith) ∙ lt-ltb i m (omega (arith, ltb-true j m (sym (tells_at j d h) ∙ e)))

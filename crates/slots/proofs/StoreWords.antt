@@ -162,3 +162,11 @@ unfolding slots
 chunks_slots zero n s h = refl
 chunks_slots (suc k) zero s h = absurd (omega arith)
 chunks_slots (suc k) (suc n) s h = ap (λ (us : List Slot). take slot_width s ∷ us) (chunks_slots k n (drop slot_width s) (omega arith))
+
+-- what is read of a store's slots
+module _ (s : List ℕ) (us : List Slot) (all : us ≡ slots (units_in (length s)) s) where
+  pub slots_many : length us ≡ units_in (length s)
+  slots_many = ap length all ∙ length_slots (units_in (length s)) s
+
+  pub slots_are : (i : ℕ) (d : Slot) → i < length us → get_or us i d ≡ slot_at i s
+  slots_are i d h = ap (λ (l : List Slot). get_or l i d) all ∙ slots_at (units_in (length s)) i s d (omega (arith, slots_many))
