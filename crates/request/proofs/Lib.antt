@@ -9,6 +9,7 @@ mod CheckSamples
 pub mod Shapes
 pub mod TableRule
 pub mod SetTags
+pub mod MemberViews
 pub mod TableTails
 mod WordFields
 mod DataRules

@@ -130,6 +130,12 @@ module _ (low high : ℕ) (l : low < 2 ^ 32) (h : high < 2 ^ 32) where
   unfolding tags_of
   tags_empty z y = let e : low ≡ 0 = omega arith in let f : high ≡ 0 = omega arith in rw (e, f, tags_none 32 0, tags_none 32 32) refl
 
+  pub split_low : 0 < low → (r : ℕ) → r ≡ low - 2 ^ count_trailing_zeros 32 low → tags_of low high ≡ count_trailing_zeros 32 low ∷ tags_of r high
+  split_low p r e = rw e (tags_low p)
+
+  pub split_high : low ≤ 0 → 0 < high → (r : ℕ) → r ≡ high - 2 ^ count_trailing_zeros 32 high → tags_of low high ≡ (32 + count_trailing_zeros 32 high) ∷ tags_of low r
+  split_high z p r e = rw e (tags_high z p)
+
   pub first_low : 0 < low → count_trailing_zeros 32 low ≡ get_or (tags_of low high) 0 most_tags
   first_low p = rw (tags_low p) refl
 

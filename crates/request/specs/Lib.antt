@@ -1,5 +1,6 @@
 pub mod Table
 pub mod Set
+pub mod Members
 pub mod Request
 pub mod Rows
 pub mod Fields

@@ -13,6 +13,7 @@ pub mod fields;
 pub mod head;
 pub mod index;
 pub mod kind;
+pub mod members;
 pub mod set;
 pub mod shape;
 pub mod table;

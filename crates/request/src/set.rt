@@ -1,6 +1,6 @@
 // A set of tags, 0 to 63, bit n for tag n. The values that follow a set stand in rising order of
 // their tags: the count of ones says how many, and trailing zeros give the next tag.
-ghost use Rattle.std.specs.Prelude.{◌≡◌, ◌-◌, ◌^◌, ◌<◌, length, get_or, drop};
+ghost use Rattle.std.specs.Prelude.{◌≡◌, [], ◌∷◌, ◌-◌, ◌^◌, ◌≤◌, ◌<◌, length, get_or, drop, IfNone, IfSome};
 ghost use Rattle.std.specs.Int.Count.{count_trailing_zeros};
 ghost use Rattle.request.specs.Set.{tags_of};
 
@@ -25,34 +25,44 @@ impl Set {
         (u32::count_ones(self.low) + u32::count_ones(self.high)) as usize
     }
 
+    // The least tag, and the set without it.
+    pub fn split_first(self) -> Option<(u32, Set)>
+        ensures none { IfNone result (tags_of self.low self.high ≡ []) }
+        ensures some { IfSome result (λ x. tags_of self.low self.high ≡ x.0 ∷ tags_of x.1.low x.1.high) }
+        ensures bound { IfSome result (λ x. x.0 ≤ 63) }
+    {
+        let low = self.low;
+        let high = self.high;
+        if low > 0 {
+            let tag = u32::trailing_zeros(low);
+            let low = without_lowest(low);
+            return Some((tag, Set { low, high }));
+        }
+        if high > 0 {
+            let tag = 32 + u32::trailing_zeros(high);
+            let high = without_lowest(high);
+            return Some((tag, Set { low, high }));
+        }
+        None
+    }
+
     // The least tag, or 64 where there is none.
     pub fn first(self) -> u32
         ensures least { result ≡ get_or (tags_of self.low self.high) 0 64 }
     {
-        if self.low > 0 {
-            return u32::trailing_zeros(self.low);
+        match self.split_first() {
+            Some((tag, _)) => tag,
+            None => 64,
         }
-        32 + u32::trailing_zeros(self.high)
     }
 
     // The set without its least tag.
     pub fn rest(self) -> Set
         ensures others { tags_of result.low result.high ≡ drop 1 (tags_of self.low self.high) }
     {
-        let low = self.low;
-        let high = self.high;
-        if low > 0 {
-            return Set {
-                low: without_lowest(low),
-                high,
-            };
+        match self.split_first() {
+            Some((_, rest)) => rest,
+            None => self,
         }
-        if high > 0 {
-            return Set {
-                low,
-                high: without_lowest(high),
-            };
-        }
-        self
     }
 }
