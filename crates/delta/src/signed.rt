@@ -9,6 +9,7 @@ ghost use Rattle.delta.specs.Op.{integer_of, change_of, reach_of};
 use number::Number;
 
 // A signed number: its size, and whether it is below zero.
+// Kept: a record has its sign beside the size, so an enum of two signs would be made from it and taken apart again by a match at each step.
 #[derive(Clone, Copy)]
 pub struct Signed {
     pub size: Number,

@@ -1,5 +1,5 @@
 // A delta in 17 words: M, H, L and the size of u, four words each, low word first, then the sign.
-// Kept: the words and a place among them, as numbers are read and written.
+// Kept: words and a place among them, for the reason in `number::words`.
 ghost use Rattle.std.specs.Prelude.{◌≡◌, ◌+◌, ◌≤◌, length, take, drop};
 ghost use Rattle.std.proofs.lemmas.List.Edits.{sets};
 ghost use Rattle.delta.specs.Delta.{delta_width, delta_ok, delta_words};

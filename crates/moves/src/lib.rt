@@ -1,7 +1,7 @@
 // Words moved up, copied, cleared, and scanned for zeros.
 #![tactic(auto)]
 
-ghost use Rattle.std.specs.Prelude.{◌≡◌, ◌+◌, ◌-◌, ◌≤◌, length, take, drop};
+ghost use Rattle.std.specs.Prelude.{◌≡◌, ◌+◌, ◌≤◌, length};
 ghost use Rattle.moves.specs.Moves.{Raised, Copied, Cleared, Clear, all_zero};
 
 // The words from `low` up to `end` moved up by `gap`.
@@ -24,6 +24,7 @@ pub fn copy_within(s: &mut [u32], to: usize, from: usize, n: usize)
 }
 
 // n words made zero.
+// Kept: a place and a count, as of the other moves: `Cleared` speaks of the whole, word by word, and a subslice's `fill` leaves to each caller what stays.
 pub fn clear(s: &mut [u32], at: usize, n: usize)
     requires inside { at + n ≤ length s.old }
     ensures cleared { Cleared at n s.old s.new }
@@ -31,11 +32,9 @@ pub fn clear(s: &mut [u32], at: usize, n: usize)
     s[at..at + n].fill(0);
 }
 
-// Whether the words from `from` up to `to` are zero. It reads them all: `all`, which stops at the first other word, is not vectorised.
-pub fn all_zero(s: &[u32], from: usize, to: usize) -> bool
-    requires order { from ≤ to }
-    requires inside { to ≤ length s.now }
-    ensures zero { result ≡ all_zero (take (to - from) (drop from s.now)) }
+// Whether words are all zero. It reads each: `all`, which stops at the first other word, is not vectorised.
+pub fn all_zero(words: &[u32]) -> bool
+    ensures zero { result ≡ all_zero words.now }
 {
-    s[from..to].iter().fold(true, |ok, &w| ok & (w == 0))
+    words.iter().fold(true, |ok, &w| ok & (w == 0))
 }

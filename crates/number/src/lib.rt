@@ -57,6 +57,7 @@ impl Number {
 
     // self - other. The difference is less than zero exactly if the high halves borrow, or their
     // wrapped difference does for the borrow of the low halves.
+    // Kept: `checked_add` with the other two calls; one function that is handed them would have to say in its contract what they do, and hide the halves.
     pub fn checked_sub(self, other: Number) -> Option<Number>
         ensures exact { result ≡ difference_of self other }
     {
@@ -89,7 +90,8 @@ impl Number {
     }
 }
 
-// Kept: equality and order by hand, since a derive compares the halves, and a contract is to speak of the values.
+// Kept: equality and order by hand. Tried, with the high half first: the derives prove, but speak of halves, so that in `delta` the proofs of `is_valid`,
+// `within`, `reached`, `apply_to` and `merge_with_previous_delta`, which speak of values, stay open.
 impl PartialEq for Number {
     ghost eq = { on value_of nat_eq };
 

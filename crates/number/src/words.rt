@@ -1,5 +1,6 @@
 // Numbers in 32-bit words, four to a number, low word first.
-// Kept: the words and a place among them; a subslice for each number would say the same with two bounds.
+// Kept: words and a place among them. Tried: a number's own subslice. `read(&s[at + 4..])` is no plainer than `read(s, at + 4)`, and each caller then needs a law
+// to turn what it says of the subslice into what it says of the words.
 #![tactic(auto, unfolding(crate::specs::Words::digits, crate::specs::Words::value_of_words))]
 
 ghost use Rattle.std.specs.Prelude.{◌≡◌, ◌+◌, ◌≤◌, length, take, drop};
@@ -10,6 +11,7 @@ ghost use Rattle.number.specs.Words.{digits, value_of_words};
 use super::Number;
 
 // The half that the two words at `at` hold.
+// Kept: `probe::pair` is the same sum; neither crate stands on the other, and each says it in the words of its own definition.
 fn read_half(s: &[u32], at: usize) -> u64
     requires fits { at + 2 ≤ length s.now }
     ensures value { result ≡ value_of_words (take 2 (drop at s.now)) }

@@ -8,11 +8,11 @@ pub enum Flag {
     Estimate = 1,
 }
 
-impl Flag {
-    // The stores keep a flag as a word.
-    pub fn word(self) -> u32
-        ensures stored { result ≡ flag_word self }
-    {
-        self as u32
+// The stores keep a flag as a word.
+impl From<Flag> for u32 {
+    ghost from_gives = { λ flag word. word ≡ flag_word flag };
+
+    fn from(flag: Flag) -> u32 {
+        flag as u32
     }
 }

@@ -9,7 +9,7 @@ pub type Incarnation = u32;
 // To keep a base value at the lowest index without conflicting with transaction index 0, this
 // wraps the index and increments it by 1. The field is private: a count of the one kind never
 // meets a count of the other but through these conversions.
-// Kept: no From<u32>, since a word is an index or a shifted one, and a conversion by its type would take the one for the other.
+// Kept: no `From`, to or from u32: a transaction index is a u32 too, and a conversion by its type would take the one for the other.
 #[derive(Clone, Copy, Debug, PartialEq, Eq, PartialOrd, Ord)]
 pub struct ShiftedTxnIndex(u32);
 
@@ -25,6 +25,7 @@ impl ShiftedTxnIndex {
         ShiftedTxnIndex(real_idx + 1)
     }
 
+    #[tactic(auto, using(crate::proofs::IndexLaws::index_checked))]
     pub fn idx(self) -> Result<TxnIndex, StorageVersion>
         ensures unshifted { result ≡ index_of (word_of self) }
     {

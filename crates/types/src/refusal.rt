@@ -30,12 +30,12 @@ pub enum Refusal {
     UnitsExhausted = 14,
 }
 
-impl Refusal {
-    // The number that a call answers.
-    pub fn number(self) -> u32
-        ensures number { result ≡ refusal_number self }
-    {
-        self as u32
+// The number that a call answers.
+impl From<Refusal> for u32 {
+    ghost from_gives = { λ refusal number. number ≡ refusal_number refusal };
+
+    fn from(refusal: Refusal) -> u32 {
+        refusal as u32
     }
 }
 

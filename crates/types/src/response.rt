@@ -24,12 +24,12 @@ pub enum AnswerKind {
     VersionedAtBase = 11,
 }
 
-impl AnswerKind {
-    // The number in a head.
-    pub fn number(self) -> u32
-        ensures number { result ≡ answer_number self }
-    {
-        self as u32
+// The number in a head.
+impl From<AnswerKind> for u32 {
+    ghost from_gives = { λ kind number. number ≡ answer_number kind };
+
+    fn from(kind: AnswerKind) -> u32 {
+        kind as u32
     }
 }
 

@@ -1,4 +1,5 @@
 // A value with its layout, and the words that it is kept in.
+// Kept: words and a place among them, for the reason in `number::words`.
 ghost use Rattle.std.specs.Prelude.{◌≡◌, not, ◌||◌, ◌+◌, ◌≤◌, eqb, length};
 ghost use Rattle.std.proofs.lemmas.List.Edits.{sets};
 ghost use Rattle.types.specs.Value.{value_width, value_at, write_op_kind, is_creation, is_deletion, is_exchanged, byte_length, layout_of, has_number, number_in, same_bytes, value_ok};
@@ -63,6 +64,7 @@ impl ValueWithLayout {
         words::write(s, at + 3, self.number);
     }
 
+    // Kept: the two bits as a number, since one of the four is no kind: `ok` tests for it.
     #[tactic(auto, unfolding(crate::specs::Value::write_op_kind, crate::specs::ValueWithLayout::words_of))]
     fn kind_bits(self) -> u32
         ensures bits { result ≡ write_op_kind (words_of self) }
@@ -118,6 +120,7 @@ impl ValueWithLayout {
     }
 
     // The lengths of bytes are compared in place of the bytes; what has none is like only what has none.
+    // Kept: no `PartialEq`, since values of the same bytes may differ in kind, layout and handle.
     pub fn same_bytes(self, other: ValueWithLayout) -> bool
         ensures same { result ≡ same_bytes (words_of self) (words_of other) }
     {
