@@ -1,3 +1,4 @@
 pub mod Layout
 pub mod Found
 pub mod Tests
+pub mod Kinds

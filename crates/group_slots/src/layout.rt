@@ -1,16 +1,39 @@
 // How updates and committed values stand in slots of 32 words (specs/Layout.antt).
-ghost use Rattle.std.specs.Prelude.{◌≡◌};
+ghost use Rattle.std.specs.Prelude.{◌≡◌, suc, ◌≤◌};
 ghost use Rattle.types.specs.Index.{word_of};
 ghost use Rattle.group_slots.specs.Layout.{update_place, committed_place};
+ghost use Rattle.group_slots.specs.Kinds.{kind_word, kind_read};
 
 use slots::slot::Place;
 use types::index::ShiftedTxnIndex;
 use types::response::MOST_TAGS;
 
-// The first word of an update's slots, and of a committed value's.
-pub const UPDATE: u32 = 1;
+// What a slot is of.
+#[derive(Clone, Copy, Debug, PartialEq, Eq)]
+pub enum SlotKind {
+    Update = 1,
+    Committed = 2,
+}
 
-pub const COMMITTED: u32 = 2;
+impl SlotKind {
+    // The first word of such a slot.
+    pub fn word(self) -> u32
+        ensures stored { result ≡ kind_word self }
+    {
+        self as u32
+    }
+
+    #[tactic(auto, unfolding(crate::specs::Kinds::kind_read))]
+    pub fn from_word(word: u32) -> Option<SlotKind>
+        ensures read { result ≡ kind_read word }
+    {
+        match word {
+            1 => Some(SlotKind::Update),
+            2 => Some(SlotKind::Committed),
+            _ => None,
+        }
+    }
+}
 
 pub const KEY: usize = 1;
 
@@ -34,14 +57,12 @@ pub const AFTER_PARTS: u32 = AFTER_TAGS + 1;
 
 pub const AFTER_TAGS: u32 = MOST_TAGS as u32;
 
-pub const LAST_FLAG: u32 = 1;
-
 // The place of a part of an update.
 pub fn update_place(key: u32, at: ShiftedTxnIndex, part: u32) -> Place
     ensures place { result ≡ update_place key (word_of «at») part }
 {
     Place {
-        kind: UPDATE,
+        kind: SlotKind::Update.word(),
         key,
         index: at.word(),
         part,
@@ -53,7 +74,7 @@ pub fn committed_place(key: u32, tag: u32) -> Place
     ensures place { result ≡ committed_place key «tag» }
 {
     Place {
-        kind: COMMITTED,
+        kind: SlotKind::Committed.word(),
         key,
         index: tag,
         part: 0,

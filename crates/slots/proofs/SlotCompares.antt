@@ -4,17 +4,14 @@ use mathlib.Core.Path.{◌≡◌, refl, ◌∙◌, ap}
 use Rattle.std.proofs.Common.{Ordering, Option, Some}
 use Rattle.std.proofs.lemmas.Bool.Decides.{nat_tests}
 use Rattle.std.specs.Ordering.{is_lt, is_some_and, partial_ordering_then, nat_cmp}
-use mathlib.Core.Bool.{Bool, true, false, not, ◌&&◌}
+use mathlib.Core.Bool.{Bool, true, ◌&&◌}
 use mathlib.Core.List.{List, [], ◌∷◌}
-use Prim.Native.Nat.{ℕ, ◌+◌, ◌*◌, ◌≤◌, ◌<◌}
+use Prim.Native.Nat.{ℕ, ◌≤◌}
 use native.Mathlib.Omega.{arith}
 use lib.Dec.{eqb}
 use lib.ListN.{length, get_or, take}
-use borrow.Author.Tests.{ne_eqb}
 use Rattle.lists.proofs.Bools.{and_swap}
-use Rattle.slots.specs.Slots.{Slot, slot_width, slot_at, is_used, before, same_words, is_at}
-use Rattle.types.specs.Units.{units_in}
-use Rattle.slots.proofs.StoreWords.{slot_inside, length_slot_at, slot_at_word}
+use Rattle.slots.specs.Slots.{Slot, before, same_words, is_at}
 
 -- the order that is derived of places, word by word
 before_more : (x a : ℕ) (o : Option Ordering) (xs ys : List ℕ) → is_some_and is_lt o ≡ before xs ys →
@@ -38,23 +35,6 @@ first_four (x ∷ []) h = absurd (omega arith)
 first_four (x ∷ y ∷ []) h = absurd (omega arith)
 first_four (x ∷ y ∷ z ∷ []) h = absurd (omega arith)
 first_four (x ∷ y ∷ z ∷ t ∷ u) h = refl
-
-module _ (i : ℕ) (s : List ℕ) (h : i < units_in (length s)) where
-  pub slot_four : (x y z t : ℕ) → x ≡ get_or s (slot_width * i + 0) 0 → y ≡ get_or s (slot_width * i + 1) 0 → z ≡ get_or s (slot_width * i + 2) 0 → t ≡ get_or s (slot_width * i + 3) 0 →
-      take 4 (slot_at i s) ≡ x ∷ y ∷ z ∷ t ∷ []
-  slot_four x y z t e f g k =
-      first_four (slot_at i s) (rw (length_slot_at i s (slot_inside i (length s) h)) (omega arith))
-      ∙ rw (slot_at_word i 0 s (omega arith), slot_at_word i 1 s (omega arith), slot_at_word i 2 s (omega arith), slot_at_word i 3 s (omega arith), e, f, g, k)
-
-  pub used_word : is_used (slot_at i s) ≡ not (eqb (get_or s (slot_width * i + 0) 0) 0)
-  unfolding is_used
-  used_word = rw (slot_at_word i 0 s (omega arith))
-
-  pub word_used : (x : ℕ) → x ≡ get_or s (slot_width * i + 0) 0 → (x ≡ 0 → ⊥) → is_used (slot_at i s) ≡ true
-  word_used x e f = used_word ∙ rw (← e, ne_eqb x 0 f)
-
-  pub word_unused : (x : ℕ) → x ≡ get_or s (slot_width * i + 0) 0 → x ≡ 0 → is_used (slot_at i s) ≡ false
-  word_unused x e f = used_word ∙ rw (← e, f)
 
 -- a slot at a place, as the places are compared
 pub at_place : (x y z t a b c d : ℕ) (u : Slot) (r : Bool) → x ∷ y ∷ z ∷ t ∷ [] ≡ take 4 u → r ≡ (eqb x a && (eqb y b && (eqb z c && eqb t d))) →

@@ -11,10 +11,11 @@ use borrow.Author.Tests.{not-true, lt-ltb, le-leb, le-ltb, ne_eqb}
 use Rattle.lists.specs.Lists.{every, front}
 use Rattle.lists.proofs.Bools.{and_left, and_right, true_not_false}
 use Rattle.lists.proofs.Lists.{every_append, every_imp, front_append}
-use Rattle.slots.specs.Slots.{Slot, slot_at, held, is_used, packed, before, is_before, same_words, is_at, ordered, place_of}
+use Rattle.slots.specs.Slots.{Slot, slots, slot_at, held, is_used, packed, before, is_before, same_words, is_at, ordered, place_of}
 use Rattle.types.specs.Units.{units_in}
 use Rattle.slots.specs.Found.{is_there, found_at, is_among}
 use Rattle.std.proofs.Common.{Ok, Err}
+use Rattle.slots.proofs.StoreWords.{slots_many, slots_are}
 use Rattle.slots.proofs.StoreEncoding.{held_fits, packed_ordered}
 use Rattle.slots.proofs.SlotOrder.{before_irrefl, before_asym, ordered_across}
 use Rattle.slots.proofs.SlotPlaces.{place_fits, nothing_at, at_level, absent_all, slot_at_held, used_test}
@@ -152,7 +153,10 @@ unused_not_at a ks (zero ∷ u) h e = rw (ne_eqb zero a (λ f. omega arith))
 unused_not_at a ks (suc x ∷ u) h e = absurd (let z : ◌≡◌ {A = ℕ} 0 1 = cc (ne_eqb (suc x) 0 (λ f. omega arith)) in omega arith)
 
 -- a search of a packed store that came to slot i
-module _ (s : List ℕ) (rising : packed s ≡ true) (a b c d : ℕ) (inUse : 0 < a) (i : ℕ) (search : i ≡ place_of (a ∷ b ∷ c ∷ d ∷ []) (held s)) (n : ℕ) (size : n ≡ units_in (length s)) where
+module _ (s : List ℕ) (rising : packed s ≡ true) (a b c d : ℕ) (inUse : 0 < a) (i : ℕ) (search : i ≡ place_of (a ∷ b ∷ c ∷ d ∷ []) (held s)) (us : List Slot) (all : us ≡ slots (units_in (length s)) s) where
+  many : length us ≡ units_in (length s)
+  many = slots_many s us all
+
   there_slot : is_there (a ∷ b ∷ c ∷ d ∷ []) (held s) ≡ is_at (a ∷ b ∷ c ∷ d ∷ []) (get_or (held s) i [])
   there_slot =
       is_there_place (a ∷ b ∷ c ∷ d ∷ []) (held s) (packed_ordered s rising) refl
@@ -170,19 +174,26 @@ module _ (s : List ℕ) (rising : packed s ≡ true) (a b c d : ℕ) (inUse : 0 
           unused_not_at a (b ∷ c ∷ d ∷ []) (slot_at i s) inUse (used_test s rising i h ∙ le-ltb i (length (held s)) (omega arith))
           ∙ sym (there_slot ∙ past_not_at (omega arith))
 
-  pub find_full : n ≤ i → Err i ≡ found_at (a ∷ b ∷ c ∷ d ∷ []) (held s)
+  pub find_full : length us ≤ i → Err i ≡ found_at (a ∷ b ∷ c ∷ d ∷ []) (held s)
   unfolding found_at
   find_full h =
-      rw (there_slot ∙ past_not_at (omega (arith, held_fits s)), ← search)
+      rw (there_slot ∙ past_not_at (omega (arith, held_fits s, many)), ← search)
 
-  pub find_there : i < n → (r : Bool) → r ≡ is_at (a ∷ b ∷ c ∷ d ∷ []) (slot_at i s) → r ≡ true → Ok i ≡ found_at (a ∷ b ∷ c ∷ d ∷ []) (held s)
-  unfolding found_at
-  find_there h r e f =
-      let t : is_there (a ∷ b ∷ c ∷ d ∷ []) (held s) ≡ true = sym (at_slot (omega arith)) ∙ sym e ∙ f in
-      rw (t, ← search)
+  module _ (h : i < length us) (r : Bool) (e : r ≡ is_at (a ∷ b ∷ c ∷ d ∷ []) (get_or us i [])) where
+    tells : is_there (a ∷ b ∷ c ∷ d ∷ []) (held s) ≡ r
+    tells =
+        sym (at_slot (omega (arith, many)))
+        ∙ ap (is_at (a ∷ b ∷ c ∷ d ∷ [])) (sym (slots_are s us all i [] h))
+        ∙ sym e
 
-  pub find_absent : i < n → (r : Bool) → r ≡ is_at (a ∷ b ∷ c ∷ d ∷ []) (slot_at i s) → r ≡ false → Err i ≡ found_at (a ∷ b ∷ c ∷ d ∷ []) (held s)
-  unfolding found_at
-  find_absent h r e f =
-      let t : is_there (a ∷ b ∷ c ∷ d ∷ []) (held s) ≡ false = sym (at_slot (omega arith)) ∙ sym e ∙ f in
-      rw (t, ← search)
+    pub find_there : r ≡ true → Ok i ≡ found_at (a ∷ b ∷ c ∷ d ∷ []) (held s)
+    unfolding found_at
+    find_there f =
+        let e : is_there (a ∷ b ∷ c ∷ d ∷ []) (held s) ≡ true = tells ∙ f in
+        rw (e, ← search)
+
+    pub find_absent : r ≡ false → Err i ≡ found_at (a ∷ b ∷ c ∷ d ∷ []) (held s)
+    unfolding found_at
+    find_absent f =
+        let e : is_there (a ∷ b ∷ c ∷ d ∷ []) (held s) ≡ false = tells ∙ f in
+        rw (e, ← search)

@@ -2,7 +2,7 @@
 -- Assumes nothing.
 use mathlib.Core.Path.{◌≡◌, sym, ◌∙◌, ap}
 use mathlib.Core.List.{List, ◌++◌, append_assoc}
-use Prim.Native.Nat.{ℕ, ◌+◌, ◌-◌, ◌*◌, ◌≤◌}
+use Prim.Native.Nat.{ℕ, ◌+◌, ◌-◌, ◌*◌, ◌≤◌, ◌<◌}
 use native.Mathlib.Omega.{arith}
 use lib.ListN.{length, take, drop, replicate, length-append, length-drop, length-replicate}
 use lib.Seq.{length-take-le, take_at, drop_at, drop-drop, take_all}
@@ -36,12 +36,14 @@ filled_cleared d z c i h e =
     ∙ rw (f, take_all {A = ℕ} (slot_width * c) (replicate (slot_width * c) 0) (omega (arith, length-replicate {A = ℕ} (slot_width * c) 0)))
     (append_assoc (take (slot_width * i) d) (replicate (slot_width * c) 0) (drop (slot_width * (i + c)) d))
 
-pub written_copy : (d s : List ℕ) (i : ℕ) (u : List ℕ) → length u ≡ slot_width →
-    s ≡ take (slot_width * i) d ++ (take slot_width (drop 0 u) ++ drop (slot_width * i + slot_width) d) → s ≡ written i u d
+pub copied_written : (d z : List ℕ) (i : ℕ) (u : List ℕ) → i < units_in (length d) → z ≡ u → length u ≡ slot_width →
+    put_mid (slot_width * i) (slot_width * i + slot_width - slot_width * i) d z ≡ written i u d
 unfolding written
-written_copy d s i u e f =
-    let g : slot_width * i + slot_width ≡ slot_width * (i + 1) = omega arith in
-    f ∙ rw (g, take_all slot_width u (omega arith))
+copied_written d z i u h e l =
+    let inside : slot_width * (i + 1) ≤ length d = slots_inside (i + 1) (length d) (omega arith) in
+    let f : slot_width * i + slot_width ≡ slot_width * (i + 1) = omega arith in
+    put_mid-paste (slot_width * i) (slot_width * i + slot_width - slot_width * i) d z u slot_width e (omega arith) (sym l)
+    ∙ rw (f, take_all slot_width u (omega arith)) (append_assoc (take (slot_width * i) d) u (drop (slot_width * (i + 1)) d))
 
 pub shift : (p s : List ℕ) (b k c n : ℕ) → length p ≡ b → c + k ≡ n → drop (b + k) (p ++ drop c s) ≡ drop n s
 shift p s b k c n e f = sym (drop-drop k b (p ++ drop c s)) ∙ rw (drop_at p (drop c s) b e) (drop-drop k c s ∙ ap (λ (m : ℕ). drop m s) f)

@@ -10,12 +10,13 @@ use lib.Dec.{ltb}
 use lib.ListN.{length, get_or, take, drop, length-drop}
 use lib.Seq.{length-take-le, get_or-take, get_or-drop}
 use borrow.Author.Tests.{not-true, ltb-true, ltb-false, lt-ltb, le-ltb}
+use Rattle.std.specs.List.Sorted.{IsPartitionPoint, IsPartitionedBy}
 use Rattle.lists.specs.Lists.{every, front}
 use Rattle.lists.proofs.Bools.{and_left, and_right, true_not_false}
 use Rattle.lists.proofs.Lists.{every_at, every_front, every_imp, every_of, front_take, length_front}
-use Rattle.slots.specs.Slots.{Slot, is_whole, is_used, slot_at, held, packed, encode, before, is_before, same_words, is_at, ordered, place_of}
+use Rattle.slots.specs.Slots.{Slot, is_whole, is_used, slots, slot_at, held, packed, encode, before, is_before, same_words, is_at, ordered, place_of}
 use Rattle.types.specs.Units.{units_in}
-use Rattle.slots.proofs.StoreWords.{whole_length}
+use Rattle.slots.proofs.StoreWords.{whole_length, slots_many, slots_are}
 use Rattle.slots.proofs.StoreEncoding.{held_whole, held_used, held_fits, packed_ordered, encode_held, slot_at_encode, unused_encode}
 use Rattle.slots.proofs.SlotOrder.{before_irrefl, before_trans, Side, lower, level, upper, side, ordered_at}
 use Rattle.slots.proofs.ZeroWords.{same_words_lem, words_same}
@@ -168,46 +169,29 @@ module _ (s : List ℕ) (rising : packed s ≡ true) (i : ℕ) (h : i < units_in
           rw (used_test, le-ltb i (length (held s)) (omega arith))
           (sym (le-ltb i (place_of k (held s)) (omega (arith, place_fits k (held s)))))
 
-  -- what each answer of a test tells a search
-  search_up : (k : List ℕ) (r : Bool) → r ≡ (is_used (slot_at i s) && before (take 4 (slot_at i s)) k) → r ≡ true → i + 1 ≤ place_of k (held s)
-  search_up k r e f = omega (arith, ltb-true i (place_of k (held s)) (sym (search_test k) ∙ sym e ∙ f))
+-- where slot i passes a test just where i is below m, a search for the first that fails ends at m
+module _ (p : Slot → Bool) (s : List ℕ) (m : ℕ) (few : m ≤ units_in (length s)) (tells : (i : ℕ) → i < units_in (length s) → p (slot_at i s) ≡ ltb i m) (us : List Slot)
+    (all : us ≡ slots (units_in (length s)) s) where
+  many : length us ≡ units_in (length s)
+  many = slots_many s us all
 
-  search_down : (k : List ℕ) (r : Bool) → r ≡ (is_used (slot_at i s) && before (take 4 (slot_at i s)) k) → r ≡ false → place_of k (held s) ≤ i
-  search_down k r e f = ltb-false i (place_of k (held s)) (sym (search_test k) ∙ sym e ∙ f)
+  tells_at : (i : ℕ) (d : Slot) → i < length us → p (get_or us i d) ≡ ltb i m
+  tells_at i d h =
+      ap p (slots_are s us all i d h) ∙ tells i (omega (arith, many))
 
-  used_up : is_used (slot_at i s) ≡ true → i + 1 ≤ length (held s)
-  used_up e = omega (arith, ltb-true i (length (held s)) (sym used_test ∙ e))
+  pub parted : IsPartitionedBy p us
+  parted i j d l h e = tells_at i d (omega arith) ∙ lt-ltb i m (omega (arith, ltb-true j m (sym (tells_at j d h) ∙ e)))
 
-  used_down : is_used (slot_at i s) ≡ false → length (held s) ≤ i
-  used_down e = ltb-false i (length (held s)) (sym used_test ∙ e)
-
--- a search ends at the place: what stands before it passes, and it fails
-module _ (s : List ℕ) (rising : packed s ≡ true) (r n : ℕ) (size : n ≡ units_in (length s)) (within : r ≤ n) where
-  pub search_point : (k : List ℕ) → (0 < r → true ≡ (is_used (slot_at (r - 1) s) && before (take 4 (slot_at (r - 1) s)) k)) →
-      (r < n → false ≡ (is_used (slot_at r s) && before (take 4 (slot_at r s)) k)) → (r ≡ place_of k (held s)) × (r ≤ length (held s))
-  search_point k last first =
-      let low : r ≤ place_of k (held s) = go (dec_lt 0 r) in
-      let high : place_of k (held s) ≤ r = stop (dec_lt r n) in
-      (omega arith, omega (arith, place_fits k (held s)))
-    where
-      go : Dec (0 < r) → r ≤ place_of k (held s)
-      go (yes h) = omega (arith, search_up s rising (r - 1) (omega arith) k true (last h) refl)
-      go (no h) = omega arith
-
-      stop : Dec (r < n) → place_of k (held s) ≤ r
-      stop (yes h) = search_down s rising r (omega arith) k false (first h) refl
-      stop (no h) = omega (arith, place_fits k (held s), held_fits s)
-
-  pub used_point : (0 < r → true ≡ is_used (slot_at (r - 1) s)) → (r < n → false ≡ is_used (slot_at r s)) → r ≡ length (held s)
-  used_point last first =
-      let low : r ≤ length (held s) = go (dec_lt 0 r) in
-      let high : length (held s) ≤ r = stop (dec_lt r n) in
+  pub point_is : (r : ℕ) → r ≤ length us → IsPartitionPoint (λ y. p y ≡ true) (λ y. p y ≡ false) us r → r ≡ m
+  point_is r within at =
+      let low : r ≤ m = below (dec_lt 0 r) in
+      let high : m ≤ r = above (dec_lt r (length us)) in
       omega arith
     where
-      go : Dec (0 < r) → r ≤ length (held s)
-      go (yes h) = omega (arith, used_up s rising (r - 1) (omega arith) (sym (last h)))
-      go (no h) = omega arith
+      below : Dec (0 < r) → r ≤ m
+      below (yes h) = omega (arith, ltb-true (r - 1) m (sym (tells_at (r - 1) [] (omega arith)) ∙ at.0 (r - 1) [] (omega arith) (omega arith)))
+      below (no h) = omega arith
 
-      stop : Dec (r < n) → length (held s) ≤ r
-      stop (yes h) = used_down s rising r (omega arith) (sym (first h))
-      stop (no h) = omega (arith, held_fits s)
+      above : Dec (r < length us) → m ≤ r
+      above (yes h) = ltb-false r m (sym (tells_at r [] h) ∙ at.1 r [] (omega arith) h)
+      above (no h) = omega (arith, many)

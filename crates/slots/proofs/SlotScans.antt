@@ -7,24 +7,16 @@ use Prim.Native.Nat.{ℕ, zero, suc, ◌+◌, ◌-◌, ◌*◌, ◌≤◌, ◌<�
 use native.Mathlib.Omega.{arith}
 use native.Mathlib.Numerals.{add-one}
 use lib.ListN.{length, take, drop}
-use lib.Seq.{drop-drop, append_snoc}
+use lib.Seq.{append_snoc}
 use Rattle.lists.specs.Lists.{every}
 use Rattle.lists.proofs.Bools.{and_both, and_left, and_right, and_swap, true_not_false}
 use Rattle.lists.proofs.Lists.{every_append, every_at}
 use Rattle.moves.specs.Moves.{all_zero}
 use Rattle.slots.specs.Slots.{Slot, slot_width, slots, slot_at, is_used, held, neighbours, joined, is_zero_from, sound}
 use Rattle.types.specs.Units.{units_in}
-use Rattle.slots.proofs.StoreWords.{drop_take, length_slots, slots_more}
+use Rattle.slots.proofs.StoreWords.{length_slots, slots_more}
 use Rattle.slots.proofs.StoreEncoding.{held_at, held_slots, held_long, held_stop, held_fits}
 use Rattle.slots.proofs.SlotOrder.{neighbours_at, neighbours_snoc}
-
--- the words of a slot from one on
-pub rest_is : (s : List ℕ) (i j : ℕ) (r : Bool) → j ≤ slot_width → r ≡ all_zero (take (slot_width * i + slot_width - (slot_width * i + j)) (drop (slot_width * i + j) s)) →
-    r ≡ all_zero (drop j (slot_at i s))
-unfolding slot_at
-rest_is s i j r h e =
-    let n : slot_width * i + slot_width - (slot_width * i + j) ≡ slot_width - j = omega arith in
-    e ∙ rw (n, drop_take j slot_width (drop (slot_width * i) s) h, drop-drop j (slot_width * i) s)
 
 pub zero_slots : (s : List ℕ) (n m : ℕ) (r : Bool) → m ≡ units_in (length s) → r ≡ all_zero (take (slot_width * m - slot_width * n) (drop (slot_width * n) s)) → r ≡ is_zero_from n s
 unfolding is_zero_from

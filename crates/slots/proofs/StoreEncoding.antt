@@ -156,7 +156,7 @@ pub held_slots : (s : List ℕ) → held s ≡ slots (length (held s)) s
 held_slots s = held_first_lem s ∙ take_slots (length (held s)) (units_in (length s)) s (held_fits s)
 
 pub held_at : (s : List ℕ) (i : ℕ) → i < length (held s) → get_or (held s) i [] ≡ slot_at i s
-held_at s i h = ap (λ (l : List Slot). get_or l i []) (held_slots s) ∙ slots_at (length (held s)) i s h
+held_at s i h = ap (λ (l : List Slot). get_or l i []) (held_slots s) ∙ slots_at (length (held s)) i s [] h
 
 -- slots in use at the front are held, and no more where the next one is not in use
 pub held_long : (s : List ℕ) (i : ℕ) → i ≤ units_in (length s) → every is_used (slots i s) ≡ true → i ≤ length (held s)
@@ -170,7 +170,7 @@ unfolding held
 held_stop s i h e f =
     front_stop is_used i (slots (units_in (length s)) s) [] (rw (length_slots (units_in (length s)) s) h)
     (rw (take_slots i (units_in (length s)) s (omega arith)) e)
-    (rw (slots_at (units_in (length s)) i s h) f)
+    (rw (slots_at (units_in (length s)) i s [] h) f)
     ∙ take_slots i (units_in (length s)) s (omega arith)
 
 flat_held : (s : List ℕ) → flat (held s) ≡ take (slot_width * length (held s)) s
@@ -225,7 +225,7 @@ module _ (s : List ℕ) (us : List Slot) (whole : every is_whole us ≡ true) (f
   pub slot_at_encode : (i : ℕ) → i < length us → slot_at i (encode s us) ≡ get_or us i []
   slot_at_encode i h =
       let e : slots (length us) (encode s us) ≡ us = rw (encode_free s us) (slots_flat us (free s (length us)) whole) in
-      sym (slots_at (length us) i (encode s us) h) ∙ ap (λ (l : List Slot). get_or l i []) e
+      sym (slots_at (length us) i (encode s us) [] h) ∙ ap (λ (l : List Slot). get_or l i []) e
 
   pub word_encode : (i j : ℕ) → i < length us → j < slot_width → get_or (encode s us) (slot_width * i + j) 0 ≡ get_or (get_or us i []) j 0
   word_encode i j h g = sym (slot_at_word i j (encode s us) g) ∙ ap (λ (u : Slot). get_or u j 0) (slot_at_encode i h)

@@ -9,6 +9,7 @@ use native.Mathlib.Omega.{arith}
 use lib.ListN.{length, get_or, take, drop, replicate, length-append, length-drop, length-replicate, take-append-drop, get_or-append}
 use lib.Seq.{length-take-le, take-nil, take-take, take_at, drop_at, drop-drop, take-add, get_or-take, get_or-drop}
 use borrow.Author.Tests.{eqb-true, eq-eqb}
+use Rattle.std.specs.Simd.{first_chunks}
 use Rattle.lists.specs.Lists.{every}
 use Rattle.lists.proofs.Bools.{and_both, and_left, and_right}
 use Rattle.lists.proofs.Lists.{every_drop, every_take}
@@ -119,14 +120,14 @@ flat_slots (suc n) s =
     rw (e, take-add slot_width (slot_width * n) s, flat_slots n (drop slot_width s))
 
 -- one slot of many
-pub slots_at : (n i : ℕ) (s : List ℕ) → i < n → get_or (slots n s) i [] ≡ slot_at i s
+pub slots_at : (n i : ℕ) (s : List ℕ) (d : Slot) → i < n → get_or (slots n s) i d ≡ slot_at i s
 unfolding slots slot_at
-slots_at zero i s h = absurd (omega arith)
-slots_at (suc n) zero s h = refl
-slots_at (suc n) (suc i) s h =
+slots_at zero i s d h = absurd (omega arith)
+slots_at (suc n) zero s d h = refl
+slots_at (suc n) (suc i) s d h =
     let f : slot_width * suc i ≡ slot_width + slot_width * i = omega arith in
     let g : drop (slot_width * i) (drop slot_width s) ≡ drop (slot_width * suc i) s = drop-drop (slot_width * i) slot_width s ∙ ap (λ (k : ℕ). drop k s) (sym f) in
-    slots_at n i (drop slot_width s) (omega arith) ∙ rw g
+    slots_at n i (drop slot_width s) d (omega arith) ∙ rw g
 
 pub slots_more : (i : ℕ) (s : List ℕ) → slots (i + 1) s ≡ slots i s ++ (slot_at i s ∷ [])
 unfolding slots slot_at
@@ -154,3 +155,18 @@ length_flat_take us i e h = length_flat (take i us) (every_take is_whole i us e)
 
 pub length_flat_drop : (us : List Slot) (i : ℕ) → every is_whole us ≡ true → length (flat (drop i us)) ≡ slot_width * (length us - i)
 length_flat_drop us i e = length_flat (drop i us) (every_drop is_whole i us e) ∙ ap (λ (k : ℕ). slot_width * k) (length-drop i us)
+
+-- the slots of a store, as the library cuts words
+pub chunks_slots : (k n : ℕ) (s : List ℕ) → k ≤ n → take k (first_chunks slot_width n s) ≡ slots k s
+unfolding slots
+chunks_slots zero n s h = refl
+chunks_slots (suc k) zero s h = absurd (omega arith)
+chunks_slots (suc k) (suc n) s h = ap (λ (us : List Slot). take slot_width s ∷ us) (chunks_slots k n (drop slot_width s) (omega arith))
+
+-- what is read of a store's slots
+module _ (s : List ℕ) (us : List Slot) (all : us ≡ slots (units_in (length s)) s) where
+  pub slots_many : length us ≡ units_in (length s)
+  slots_many = ap length all ∙ length_slots (units_in (length s)) s
+
+  pub slots_are : (i : ℕ) (d : Slot) → i < length us → get_or us i d ≡ slot_at i s
+  slots_are i d h = ap (λ (l : List Slot). get_or l i d) all ∙ slots_at (units_in (length s)) i s d (omega (arith, slots_many))

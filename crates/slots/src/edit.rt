@@ -1,26 +1,18 @@
 // Moving and writing slots.
-ghost use Rattle.std.specs.Prelude.{◌≡◌, ◌++◌, ◌+◌, ◌*◌, ◌≤◌, ◌<◌, length, set, take, drop};
+ghost use Rattle.std.specs.Prelude.{◌≡◌, ◌+◌, ◌*◌, ◌≤◌, ◌<◌, length, set};
 ghost use Rattle.slots.specs.Slots.{slot_width, opened, cleared, closed, written};
 ghost use Rattle.types.specs.Units.{units_in};
 ghost use Rattle.slots.specs.Runs.{resized};
 
-use crate::slot::SLOT_WIDTH;
-
-// Words of one slice copied into another.
-pub fn copy_words(to: &mut [u32], at: usize, from: &[u32], start: usize, n: usize)
-    requires target { at + n ≤ length to.old }
-    requires source { start + n ≤ length from.now }
-    ensures copied { to.new ≡ take at to.old ++ (take n (drop start from.now) ++ drop (at + n) to.old) }
-{
-    to[at..at + n].copy_from_slice(&from[start..start + n]);
-}
+use crate::slot::{SLOT_WIDTH, Slot};
 
 // Slot i replaced.
-pub fn write_slot(s: &mut [u32], i: usize, u: &[u32; SLOT_WIDTH])
+#[tactic(auto, using(crate::proofs::SlotMoves::copied_written), unfolding(types::specs::Units::units_in))]
+pub fn write_slot(s: &mut [u32], i: usize, u: &Slot)
     requires inside { i < units_in (length s.old) }
     ensures written { s.new ≡ written i u.now s.old }
 {
-    copy_words(s, SLOT_WIDTH * i, u, 0, SLOT_WIDTH);
+    s[SLOT_WIDTH * i..SLOT_WIDTH * i + SLOT_WIDTH].copy_from_slice(u);
 }
 
 // Word j of slot i replaced.
@@ -33,6 +25,7 @@ pub fn set_word(s: &mut [u32], i: usize, j: usize, w: u32)
 }
 
 // Slots from i on, of n in use, moved up by c.
+#[tactic(auto, using(crate::proofs::SlotMoves::copied_opened), unfolding(types::specs::Units::units_in))]
 pub fn open_slots(s: &mut [u32], i: usize, n: usize, c: usize)
     requires order { i ≤ n }
     requires room { n + c ≤ units_in (length s.old) }
@@ -42,6 +35,7 @@ pub fn open_slots(s: &mut [u32], i: usize, n: usize, c: usize)
 }
 
 // c slots from i on cleared.
+#[tactic(auto, using(crate::proofs::SlotMoves::filled_cleared), unfolding(types::specs::Units::units_in))]
 pub fn clear_slots(s: &mut [u32], i: usize, c: usize)
     requires inside { i + c ≤ units_in (length s.old) }
     ensures cleared { s.new ≡ cleared c i s.old }
@@ -50,6 +44,7 @@ pub fn clear_slots(s: &mut [u32], i: usize, c: usize)
 }
 
 // Slots from i + c on, of n in use, moved down by c, and the last c of them cleared.
+#[tactic(auto, using(crate::proofs::SlotMoves::closed_steps), unfolding(types::specs::Units::units_in))]
 pub fn close_slots(s: &mut [u32], i: usize, n: usize, c: usize)
     requires order { i + c ≤ n }
     requires inside { n ≤ units_in (length s.old) }
@@ -61,6 +56,7 @@ pub fn close_slots(s: &mut [u32], i: usize, n: usize, c: usize)
 }
 
 // The slots after the n from i on, of `used` in use, moved so that m have room there.
+#[tactic(auto, using(crate::proofs::SlotSplices::resized_same, crate::proofs::SlotSplices::resized_up, crate::proofs::SlotSplices::resized_down), unfolding(types::specs::Units::units_in))]
 pub fn resize(s: &mut [u32], i: usize, n: usize, m: usize, used: usize)
     requires order { i + n ≤ used }
     requires inside { used ≤ units_in (length s.old) }

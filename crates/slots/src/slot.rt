@@ -1,11 +1,24 @@
-// Reading slots: their words, their places, and their order.
-ghost use Rattle.std.specs.Prelude.{◌≡◌, ◌&&◌, ◌+◌, ◌*◌, ◌<◌, length, get_or, take};
-ghost use Rattle.slots.specs.Slots.{slot_width, slot_at, is_used, is_at, is_before, before};
+// The slots of a store: their words, their places, and their order.
+ghost use Rattle.std.specs.Prelude.{◌≡◌, ◌&&◌, length, take};
+ghost use Rattle.slots.specs.Slots.{slots, is_used, is_at, is_before, before};
 ghost use Rattle.slots.specs.Place.{words_of};
 ghost use Rattle.types.specs.Units.{units_in};
 
+use types::units::units;
+
 // How many words a slot has: `slot_width`.
 pub const SLOT_WIDTH: usize = 32;
+
+pub type Slot = [u32; SLOT_WIDTH];
+
+// The slots of a store, in use or not.
+#[tactic(auto, using(crate::proofs::StoreWords::chunks_slots), unfolding(types::specs::Units::units_in))]
+pub fn slots_of(s: &[u32]) -> &[Slot]
+    ensures slots { result.now ≡ slots (units_in (length s.now)) s.now }
+{
+    let (whole, _) = s.as_chunks::<SLOT_WIDTH>();
+    &whole[..units(s)]
+}
 
 // A place in the order of slots: their first four words, the first of them first.
 #[derive(Clone, Copy, PartialEq, Eq, PartialOrd, Ord)]
@@ -18,60 +31,46 @@ pub struct Place {
 }
 
 impl Place {
-    // The place of slot i.
-    fn read(s: &[u32], i: usize) -> Place
-        requires inside { i < units_in (length s.now) }
-        ensures place { words_of result ≡ take 4 (slot_at i s.now) }
+    // The place of a slot.
+    fn read(u: &Slot) -> Place
+        ensures place { words_of result ≡ take 4 u.now }
     {
         Place {
-            kind: word(s, i, 0),
-            key: word(s, i, 1),
-            index: word(s, i, 2),
-            part: word(s, i, 3),
+            kind: u[0],
+            key: u[1],
+            index: u[2],
+            part: u[3],
         }
     }
 }
 
-// Word j of slot i.
-pub fn word(s: &[u32], i: usize, j: usize) -> u32
-    requires inside { i < units_in (length s.now) }
-    requires within { j < slot_width }
-    ensures word { result ≡ get_or s.now (slot_width * i + j) 0 }
+// Whether a slot is in use.
+#[tactic(auto, unfolding(crate::specs::Slots::is_used))]
+pub fn is_used(u: &Slot) -> bool
+    ensures used { result ≡ is_used u.now }
 {
-    s[SLOT_WIDTH * i + j]
+    u[0] != 0
 }
 
-// Whether slot i is in use.
-pub fn is_used(s: &[u32], i: usize) -> bool
-    requires inside { i < units_in (length s.now) }
-    ensures used { result ≡ is_used (slot_at i s.now) }
+// Whether a slot is in use and stands before a place.
+pub fn stands_before(u: &Slot, at: Place) -> bool
+    ensures order { result ≡ (is_used u.now && before (take 4 u.now) (words_of «at»)) }
 {
-    word(s, i, 0) != 0
+    is_used(u) && Place::read(u) < at
 }
 
-// Whether slot i is in use and stands before a place.
-pub fn stands_before(s: &[u32], i: usize, at: Place) -> bool
-    requires inside { i < units_in (length s.now) }
-    ensures order { result ≡ (is_used (slot_at i s.now) && before (take 4 (slot_at i s.now)) (words_of «at»)) }
+// Whether a slot stands at a place.
+pub fn stands_at(u: &Slot, at: Place) -> bool
+    ensures place { result ≡ is_at (words_of «at») u.now }
 {
-    is_used(s, i) && Place::read(s, i) < at
+    Place::read(u) == at
 }
 
-// Whether slot i stands at a place.
-pub fn stands_at(s: &[u32], i: usize, at: Place) -> bool
-    requires inside { i < units_in (length s.now) }
-    ensures place { result ≡ is_at (words_of «at») (slot_at i s.now) }
+// Whether a slot stands before another.
+pub fn in_order(u: &Slot, v: &Slot) -> bool
+    ensures order { result ≡ is_before u.now v.now }
 {
-    Place::read(s, i) == at
-}
-
-// Whether slot i stands before slot j.
-pub fn in_order(s: &[u32], i: usize, j: usize) -> bool
-    requires inside { i < units_in (length s.now) }
-    requires within { j < units_in (length s.now) }
-    ensures order { result ≡ is_before (slot_at i s.now) (slot_at j s.now) }
-{
-    let first = Place::read(s, i);
-    let second = Place::read(s, j);
+    let first = Place::read(u);
+    let second = Place::read(v);
     first < second
 }

@@ -1,12 +1,9 @@
--- `group_slots::scan::slots_ok` meets its contract.
+-- The slots before slot i pass.
 -- Assumes nothing.
-use mathlib.Core.Path.{◌≡◌}
-use mathlib.Core.Bool.{true}
-use lib.ListN.{length}
-use Rattle.types.specs.Units.{units_in}
+use Rattle.std.proofs.Common.{◌≡◌, true}
 use Rattle.slots.proofs.SlotScans.{passed}
 use Rattle.group_slots.specs.Tests.{slot_test, follows}
 use Rattle.group_slots.proofs.scan.slots_ok.Given as goal
 
 abbrev pub invariant-loop-i : goal.invariant-loop-i
-invariant-loop-i l = (l.i-end ≡ units_in (length l.s)) × (passed slot_test follows l.i l.s ≡ true)
+invariant-loop-i l = passed slot_test follows l.i l.s ≡ true
