@@ -141,10 +141,10 @@ fn page_passes(s: &[u32], base: usize, n: usize, k: usize) -> bool
     }
     let end = a + 1 + 3 * c;
     if k < m {
-        return all_zero(s, end, a + 97);
+        return all_zero(&s[end..a + 97]);
     }
     let to = 32 * n;
-    all_zero(s, end, to)
+    all_zero(&s[end..to])
 }
 
 // Whether the pages pass, their cells too, and there are as many cells as payloads in use.
@@ -190,11 +190,11 @@ fn is_valid<const WIDTH: usize, const PARTS: usize>(s: &[u32], n: usize) -> bool
     if most_pages(n) <= word(s, 1) {
         return false;
     }
-    if !all_zero(s, 2, 6) {
+    if !all_zero(&s[2..6]) {
         return false;
     }
     let base = 6 + WIDTH * n;
-    if !all_zero(s, 6 + WIDTH * h, base) {
+    if !all_zero(&s[6 + WIDTH * h..base]) {
         return false;
     }
     pages_pass::<WIDTH, PARTS>(s, base, n)

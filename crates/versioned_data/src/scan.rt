@@ -42,7 +42,7 @@ fn write_ok(s: &[u32], b: usize, place: u32, marks: Marks) -> bool
     if !side_ok(s, b, place, marks) {
         return false;
     }
-    all_zero(s, b + 8, b + 20)
+    all_zero(&s[b + 8..b + 20])
 }
 
 // Whether a delta above the base is at b, with zeros after it where it has no shortcut.
@@ -57,7 +57,7 @@ fn delta_ok(s: &[u32], b: usize, place: u32, marks: Marks) -> bool
         return false;
     }
     if marks.is_delta_alone() {
-        return all_zero(s, b + 16, b + 20);
+        return all_zero(&s[b + 16..b + 20]);
     }
     true
 }

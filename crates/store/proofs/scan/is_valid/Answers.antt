@@ -43,10 +43,6 @@ overflow_mul-h g c = omega (arith, fit g c)
 pub overflow_add-h : goal.overflow_add-h
 overflow_add-h g c = omega (arith, fit g c)
 
-pub all_zero-requires-2 : goal.all_zero-requires-2
-all_zero-requires-2 g c =
-    record { order = omega (arith, fit g c); inside = omega (arith, fit g c) }
-
 pub returns-then-not-all_zero-2 : goal.returns-then-not-all_zero-2
 returns-then-not-all_zero-2 g c =
     record {

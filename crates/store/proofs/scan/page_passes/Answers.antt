@@ -15,16 +15,11 @@ returns-then-is_void c =
           c.room.ensures.room c.if-room-c.false _ c.is_void.ensures.void c.if-is_void.true;
     }
 
-pub all_zero-requires : goal.all_zero-requires
-all_zero-requires c =
-    record {
-      order = omega (
-        arith,
-        inner_few _ _ _ _ _ _ c.word-m.ensures.same c.requires.pages c.if-k-m.true
-            c.room.ensures.room c.if-room-c.false,
-      );
-      inside = omega arith;
-    }
+pub slice_bounds-all_zero-count : goal.slice_bounds-all_zero-count
+slice_bounds-all_zero-count c = omega (arith, inner_few _ _ _ _ _ _ c.word-m.ensures.same c.requires.pages c.if-k-m.true c.room.ensures.room c.if-room-c.false)
+
+pub slice_bounds-all_zero-start : goal.slice_bounds-all_zero-start
+slice_bounds-all_zero-start c = omega (arith, inner_few _ _ _ _ _ _ c.word-m.ensures.same c.requires.pages c.if-k-m.true c.room.ensures.room c.if-room-c.false)
 
 pub returns-then-k-m : goal.returns-then-k-m
 returns-then-k-m c =
