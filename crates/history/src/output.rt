@@ -137,7 +137,7 @@ impl<const N: usize> Output<N> {
                 let n = response::count_in(answer[0]) + 1;
                 self.put_answer(&answer[..n]);
             }
-            Err(refusal) => self.put_refusal(refusal.number()),
+            Err(refusal) => self.put_refusal(u32::from(refusal)),
         }
     }
 

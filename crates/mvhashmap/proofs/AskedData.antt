@@ -1,4 +1,4 @@
--- A request that 1 to 4 do not refuse: the work that it asks for and the words that it has, kind by kind.
+-- A request for the data store that 1 to 4 do not refuse: the work that it asks for and the words that it has, kind by kind.
 -- Assumes nothing.
 use mathlib.Core.Path.{◌≡◌, refl, sym, ap, ◌∙◌}
 use mathlib.Core.Bool.{Bool, true, ◌&&◌}
@@ -13,21 +13,13 @@ use Rattle.delta.specs.Delta.{delta_width, delta_at, delta_ok}
 use Rattle.types.specs.Index.{index_bound, materialize_bound}
 use Rattle.types.specs.Value.{value_at, value_width, value_ok, is_exchanged}
 use Rattle.request.specs.Table.{number_of, row, table, row_of, key_place, index_place, incarnation_place}
-use Rattle.request.specs.declared.kind.Kind.TheVariants.{LastCommitted, GroupBase, Exchange, GroupWrite, GroupEstimate, GroupRemove, GroupFetch, GroupSize, Finalize}
-use Rattle.request.specs.Set.{tags_of}
 use Rattle.request.specs.Request.{request_of}
-use Rattle.request.specs.declared.asked.Fields.{Fields}
-use Rattle.request.proofs.CheckAnswers.{Passed, accepted_passed}
-use Rattle.request.proofs.CheckPasses.{passed_room, passed_values, passed_index, passed_tag}
 use Rattle.request.proofs.DataFields as Fields
-use Rattle.request.proofs.RequestAsks as Requests
 use Rattle.model.specs.Data as Rule
-use Rattle.model.specs.Group as Groups
-use Rattle.model.specs.Model.{Work, read_data, edit_data, read_group, edit_group, commit_group, work_of}
+use Rattle.model.specs.Model.{Work, read_data, edit_data, work_of}
 use Rattle.model.specs.Fine.{is_word, fine_value, fine_request}
 use Rattle.model.proofs.FineRequests.{request_of_fine}
-use Rattle.versioned_group_data.specs.Members.{members_at}
-use Rattle.mvhashmap.specs.Served.{DataAsked, Asked}
+use Rattle.mvhashmap.specs.Served.{DataAsked}
 
 -- The work that a request asks for. Its fields are fine.
 pub record Asks (t : List ℕ) (w : Work) : Type 0 where
@@ -121,70 +113,3 @@ module _ (t : List ℕ) where
   pub asks_materialize : DataAsked t 7 → Asks t (edit_data (get_or t key_place 0) (suc (get_or t index_place 0)) (suc (get_or t index_place 0)) Rule.materialize_delta)
   unfolding work_of
   asks_materialize a = asks_data 7 a _ (ap work_of (Fields.words_materialize t a.kind))
-
--- ---- the group store's kinds: the fields are handed on
-
-module _ (t : List ℕ) (f : Fields) (a : Asked t f) where
-  passed : Passed t f
-  passed = accepted_passed t f a.checked
-
-  asks : (w : Work) → work_of (request_of t) ≡ w → Asks t w
-  asks w e = record { work = e; fine = request_of_fine t a.words passed.refusal }
-
-  pub index_served : f.index < index_bound
-  index_served = omega (arith, passed_index t f passed)
-
-  pub tag_served : f.tag ≤ 63
-  tag_served = passed_tag t f passed
-
-  -- ---- the words of each kind
-
-  pub group_base_inside : f.kind ≡ GroupBase → f.value + value_width * length (tags_of f.set.low f.set.high) ≤ length t
-  unfolding row_of table row
-  group_base_inside k = passed_values t f passed 8 (ap number_of k) refl refl
-
-  pub exchange_inside : f.kind ≡ Exchange → f.value + value_width ≤ length t
-  unfolding row_of table row
-  exchange_inside k = passed_room t f passed 9 (ap number_of k) value_width (omega arith)
-
-  pub group_write_inside : f.kind ≡ GroupWrite → f.value + value_width * length (tags_of f.set.low f.set.high) ≤ length t
-  unfolding row_of table row
-  group_write_inside k = passed_values t f passed 10 (ap number_of k) refl refl
-
-  -- ---- the work of each kind
-
-  pub asks_last_committed : f.kind ≡ LastCommitted → Asks t (commit_group f.key 0 (Groups.get_last_committed_group f.key))
-  unfolding work_of
-  asks_last_committed k = asks _ (ap work_of (Requests.asks_last_committed t passed.shape f passed.fields (ap number_of k)))
-
-  pub asks_group_base : f.kind ≡ GroupBase → Asks t (commit_group f.key 0 (Groups.set_raw_base_values f.key (members_at f.set f.value t)))
-  unfolding work_of members_at
-  asks_group_base k = asks _ (ap work_of (Requests.asks_group_base t passed.shape f passed.fields (ap number_of k)))
-
-  pub asks_exchange : f.kind ≡ Exchange → Asks t (commit_group f.key 0 (Groups.update_tagged_base_value f.key f.tag (value_at f.value t)))
-  unfolding work_of
-  asks_exchange k = asks _ (ap work_of (Requests.asks_exchange t passed.shape f passed.fields (ap number_of k)))
-
-  pub asks_group_write : f.kind ≡ GroupWrite → Asks t (edit_group f.key (suc f.index) (Groups.write_group f.incarnation (members_at f.set f.value t)))
-  unfolding work_of members_at
-  asks_group_write k = asks _ (ap work_of (Requests.asks_group_write t passed.shape f passed.fields (ap number_of k)))
-
-  pub asks_group_estimate : f.kind ≡ GroupEstimate → Asks t (edit_group f.key (suc f.index) Groups.mark_group)
-  unfolding work_of
-  asks_group_estimate k = asks _ (ap work_of (Requests.asks_group_estimate t passed.shape f passed.fields (ap number_of k)))
-
-  pub asks_group_remove : f.kind ≡ GroupRemove → Asks t (edit_group f.key (suc f.index) Groups.remove_group)
-  unfolding work_of
-  asks_group_remove k = asks _ (ap work_of (Requests.asks_group_remove t passed.shape f passed.fields (ap number_of k)))
-
-  pub asks_group_fetch : f.kind ≡ GroupFetch → Asks t (read_group f.key f.index (Groups.fetch_tagged_data f.tag))
-  unfolding work_of
-  asks_group_fetch k = asks _ (ap work_of (Requests.asks_group_fetch t passed.shape f passed.fields (ap number_of k)))
-
-  pub asks_group_size : f.kind ≡ GroupSize → Asks t (read_group f.key f.index Groups.get_group_size)
-  unfolding work_of
-  asks_group_size k = asks _ (ap work_of (Requests.asks_group_size t passed.shape f passed.fields (ap number_of k)))
-
-  pub asks_finalize : f.kind ≡ Finalize → Asks t (commit_group f.key (suc f.index) (Groups.finalize_group f.key))
-  unfolding work_of
-  asks_finalize k = asks _ (ap work_of (Requests.asks_finalize t passed.shape f passed.fields (ap number_of k)))

@@ -14,9 +14,9 @@ use Rattle.number.specs.Words.{AreWords}
 use Rattle.types.specs.Refusal.{answer_too_short, wrong_count, damaged_store, refusal_number, result_number}
 use Rattle.types.specs.Response.{answer_width, kind_in}
 use Rattle.request.specs.Request.{refusal_of}
-use Rattle.request.specs.Fields.{kind_at}
+use Rattle.request.specs.Fields.{kind_at, kind_asked}
 use Rattle.request.specs.Checked.{check_of}
-use Rattle.request.specs.declared.asked.Fields.{Fields}
+use Rattle.request.specs.declared.asked.Request.{Request}
 use Rattle.std.specs.Prelude.{Result, Ok, Err}
 use Rattle.types.specs.declared.refusal.Refusal.{Refusal}
 use Rattle.request.specs.declared.kind.Kind.{Kind}
@@ -27,7 +27,7 @@ use Rattle.versioned_group_data.proofs.Results.{refusal_some}
 use Rattle.request.proofs.KindNumbers.{number_back}
 use Rattle.request.proofs.Shapes.{shape_empty}
 use Rattle.request.proofs.CheckAnswers.{accepted_passed, refused_told}
-use Rattle.request.proofs.CheckPasses.{kind_is}
+use Rattle.request.proofs.CheckPasses.{passed_kind}
 use Rattle.model.specs.Model.{unless_refused, ruling, step}
 use Rattle.model.proofs.FineParts.{words_every}
 use Rattle.versioned_data.specs.Layout.{data_valid}
@@ -38,7 +38,7 @@ use Rattle.mvhashmap.proofs.CallOrder.{refused_by_slice, refused_by_request, ref
 use Rattle.mvhashmap.proofs.StoresSound.{data_valid_lem, group_valid_lem, sound_both, call_of_long}
 use Rattle.mvhashmap.proofs.ServedWorks.{like_same}
 
-pub asked_accepted : (t : List ℕ) → AreWords t → (x : Result Fields Refusal) → x ≡ check_of t → (f : Fields) → x ≡ Ok f → Asked t f
+pub asked_accepted : (t : List ℕ) → AreWords t → (x : Result Request Refusal) → x ≡ check_of t → (f : Request) → x ≡ Ok f → Asked t f
 asked_accepted t w x e f h = record { words = words_every t w; checked = sym e ∙ h }
 
 -- What the check of a data request that did not refuse has told.
@@ -47,7 +47,7 @@ asked_data t w k e x p a z =
     record { words = words_every t w; passed = sym p ∙ ap result_number z; kind = sym e }
 
 -- What the whole check that did not refuse has told.
-pub passed_told : (t : List ℕ) (x : Result Fields Refusal) → x ≡ check_of t → (f : Fields) → x ≡ Ok f → refusal_of t ≡ 0
+pub passed_told : (t : List ℕ) (x : Result Request Refusal) → x ≡ check_of t → (f : Request) → x ≡ Ok f → refusal_of t ≡ 0
 passed_told t x e f h = (accepted_passed t f (sym e ∙ h)).refusal
 
 -- What a scan that did not refuse has told.
@@ -96,8 +96,8 @@ data_kind b k e n =
     let d = sym e ∙ n in
     (leb-true 1 k (and_left (leb 1 k) (leb k 7) d), leb-true k 7 (and_right (leb 1 k) (leb k 7) d))
 
-pub group_kind : (t : List ℕ) (x : Result Fields Refusal) → x ≡ check_of t → (f : Fields) → x ≡ Ok f → is_data (kind_at t) ≡ false → is_data (number_of f.kind) ≡ false
-group_kind t x e f h n = ap is_data (kind_is t f (accepted_passed t f (sym e ∙ h))) ∙ n
+pub group_kind : (t : List ℕ) (x : Result Request Refusal) → x ≡ check_of t → (f : Request) → x ≡ Ok f → is_data (kind_at t) ≡ false → is_data (number_of (kind_asked f)) ≡ false
+group_kind t x e f h n = ap is_data (passed_kind t f (accepted_passed t f (sym e ∙ h))) ∙ n
 
 -- Four bits hold the kind of a request.
 pub kind_told : (t : List ℕ) → get_or t 0 0 < 2 ^ 32 → (n : ℕ) → n ≡ kind_in (get_or t 0 0) → (k : Kind) → k ≡ kind_of n → number_of k ≡ kind_at t
@@ -126,7 +126,7 @@ module _ (t : List ℕ) (l : Lent) where
     calls_empty h = calls_refusal wrong_count (rw (sym (shape_empty t (omega arith))) refl) (λ e. omega arith)
 
     -- and by the whole check
-    module _ (x : Result Fields Refusal) (checked : x ≡ check_of t) where
+    module _ (x : Result Request Refusal) (checked : x ≡ check_of t) where
       pub calls_refused : (refusal : Refusal) → x ≡ Err refusal → Calls t l (refusal_number refusal) l
       calls_refused refusal e =
           calls_refusal (refusal_number refusal) (refused_told t refusal (sym checked ∙ e)) (refusal_some refusal)
@@ -162,10 +162,10 @@ module _ (t d g o : List ℕ) (k : ℕ) (a : DataAsked t k) (room : answer_width
   calls_data s = calls_served t (lent d g o) room a.passed v r (lent after g o-after) (s.served g (group_valid_lem (stores d g) v))
 
 module _ (t g o : List ℕ) (room : answer_width ≤ length o) (v : group_valid g ≡ true) where
-  pub group_refused : (x : Result Fields Refusal) → x ≡ check_of t → (refusal : Refusal) → x ≡ Err refusal → CallsGroup t g o (refusal_number refusal) g o
+  pub group_refused : (x : Result Request Refusal) → x ≡ check_of t → (refusal : Refusal) → x ≡ Err refusal → CallsGroup t g o (refusal_number refusal) g o
   group_refused x e refusal h = record { called = λ d u. calls_refused t (lent d g o) room x e refusal h }
 
-  pub group_served : (f : Fields) → Asked t f → (r : ℕ) (after o-after : List ℕ) → ServesGroup t g o r after o-after → CallsGroup t g o r after o-after
+  pub group_served : (f : Request) → Asked t f → (r : ℕ) (after o-after : List ℕ) → ServesGroup t g o r after o-after → CallsGroup t g o r after o-after
   group_served f a r after o-after s =
       record {
         called = λ d u. calls_served t (lent d g o) room (accepted_passed t f a.checked).refusal (sound_both d g u v) r (lent d after o-after) (s.served d u);

@@ -15,6 +15,7 @@ pub mod AnswerDones
 pub mod ServedData
 pub mod ServedGroup
 pub mod AskedGroup
+pub mod PartLaws
 pub mod ServedKinds
 pub mod CallFront
 pub mod CallParts

@@ -4,7 +4,7 @@ use Rattle.lists.specs.Lists.{every}
 use Rattle.request.specs.Request.{refusal_of, request_of}
 use Rattle.request.specs.Fields.{kind_at}
 use Rattle.request.specs.Checked.{check_of}
-use Rattle.request.specs.declared.asked.Fields.{Fields}
+use Rattle.request.specs.declared.asked.Request.{Request}
 use Rattle.model.specs.Model.{work_of, perform, unless_full}
 use Rattle.model.specs.Fine.{is_word}
 use Rattle.versioned_data.specs.Layout.{data_valid}
@@ -15,13 +15,13 @@ use Rattle.mvhashmap.specs.Call.{Lent, lent, View, view_of, CalledView, called_v
 unfoldable pub is_data : ℕ → Bool
 is_data kind = leb 1 kind && leb kind 7
 
--- A request of words that 1 to 4 do not refuse: one for the data store by its words, one for the group store by its fields.
+-- A request of words that 1 to 4 do not refuse: one for the data store by its words, one for the group store by what it asks.
 pub record DataAsked (t : List ℕ) (number : ℕ) : Type 0 where
   pub words : every is_word t ≡ true
   pub passed : refusal_of t ≡ 0
   pub kind : kind_at t ≡ number
 
-pub record Asked (t : List ℕ) (f : Fields) : Type 0 where
+pub record Asked (t : List ℕ) (f : Request) : Type 0 where
   pub words : every is_word t ≡ true
   pub checked : check_of t ≡ Ok f
 

@@ -45,8 +45,8 @@ fn group_request(t: &[u32], group: &mut [u32], out: &mut [u32; ANSWER_WIDTH]) ->
     requires kind { is_data (kind_at t.now) ≡ false }
     ensures called { CallsGroup t.now group.old out.old (result_number result) group.new out.new }
 {
-    let f = request::check(t)?;
-    group_call(f, t, group, out)
+    let request = request::check(t)?;
+    group_call(request, t, group, out)
 }
 
 // A call with words for the longest answer.

@@ -7,22 +7,10 @@ ghost use Rattle.mvhashmap.specs.Served.{DataAsked, ServesData};
 
 use crate::answer::{done, put_data_output, put_materialized, put_write};
 use request::kind::Kind;
+use request::places::{BASE_VALUE, DELTA, INCARNATION, INDEX, KEY, WRITE_VALUE};
 use types::refusal::Refusal;
 use types::response::ANSWER_WIDTH;
 use versioned_data::{edit, fetch, materialize};
-
-// The places of the fields: single words, the values of a base and of a write, and a delta.
-const KEY: usize = 1;
-
-const INDEX: usize = 2;
-
-const INCARNATION: usize = 3;
-
-const BASE_VALUE: usize = 2;
-
-const WRITE_VALUE: usize = 4;
-
-const DELTA: usize = 3;
 
 // A fetch that ends at no write.
 fn fetch_other(t: &[u32], s: &[u32], out: &mut [u32; ANSWER_WIDTH]) -> Result<(), Refusal>
@@ -67,8 +55,8 @@ fn rare_call(
     ensures served { ServesData t.now s.old out.old (result_number result) s.new out.new }
 {
     match kind {
-        Kind::Base => done(out, edit::set_base_value(s, t[KEY], t, BASE_VALUE)),
-        Kind::AddDelta => done(out, edit::add_delta(s, t[KEY], t[INDEX], t, DELTA)),
+        Kind::Base => done(out, edit::set_base_value(s, t[KEY], &t[BASE_VALUE..])),
+        Kind::AddDelta => done(out, edit::add_delta(s, t[KEY], t[INDEX], &t[DELTA..])),
         Kind::Estimate => done(out, edit::mark_estimate(s, t[KEY], t[INDEX])),
         _ => {
             let m = materialize::materialize_delta(s, t[KEY], t[INDEX])?;
@@ -95,7 +83,7 @@ pub fn data_call(
         Kind::Fetch => fetch_data(t, s, out),
         Kind::Write => done(
             out,
-            edit::write(s, t[KEY], t[INDEX], t[INCARNATION], t, WRITE_VALUE),
+            edit::write(s, t[KEY], t[INDEX], t[INCARNATION], &t[WRITE_VALUE..]),
         ),
         Kind::Remove => done(out, edit::remove(s, t[KEY], t[INDEX])),
         _ => rare_call(kind, &t[0..], &mut s[0..], out),

@@ -14,7 +14,7 @@ fn number_of(called: Result<(), Refusal>) -> u32
 {
     match called {
         Ok(()) => 0,
-        Err(refusal) => refusal.number(),
+        Err(refusal) => u32::from(refusal),
     }
 }
 

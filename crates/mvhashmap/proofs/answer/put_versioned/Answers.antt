@@ -5,10 +5,6 @@ use lib.ListN.{length-set}
 use native.Mathlib.Omega.{arith}
 use Rattle.mvhashmap.proofs.answer.put_versioned.Goals as goal
 
-pub write-requires : goal.write-requires
-write-requires c =
-    record { inside = simp length-set (omega arith) }
-
 pub returns-in-Err : goal.returns-in-Err
 returns-in-Err c =
     record { put = versioned_at_base _ _ _ _ _ _ (omega arith) _ c.idx.ensures.unshifted _ c.in-Err.is c.put_head-in-Err.ensures.put c.write-in-Err.ensures.written }

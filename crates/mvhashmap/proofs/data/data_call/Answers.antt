@@ -2,6 +2,7 @@
 -- Assumes nothing.
 use native.Mathlib.Omega.{arith}
 use Rattle.mvhashmap.proofs.ServedData.{serves_edit}
+use Rattle.mvhashmap.proofs.PartLaws.{value_part, part_inside}
 use Rattle.mvhashmap.proofs.ServedKinds.{asked_as}
 use Rattle.mvhashmap.proofs.AnswerDones.{write_value_done, remove_done}
 use Rattle.mvhashmap.proofs.AskedData.{words_inside, write_inside, write_ok_lem, data_served, asks_write, asks_remove}
@@ -23,16 +24,16 @@ write-requires c =
     record {
       valid = c.requires.valid;
       served = data_served _ 2 a (omega arith) (omega arith);
-      inside = write_inside _ a;
-      value = ok.0;
-      exchanged = ok.1;
+      inside = part_inside 4 _ _ (write_inside _ a);
+      value = rw (value_part 4 c.args.t.now) ok.0;
+      exchanged = rw (value_part 4 c.args.t.now) ok.1;
     }
 
 pub returns-in-Write : goal.returns-in-Write
 returns-in-Write c =
     record {
       served = serves_edit _ _ _ _ _ c.requires.valid _ _ 0 _ (asks_write _ (asked_as _ _ _ c.in-Write.is c.requires.asked)) (write_value_done _ _) _ _
-          c.write.ensures.edited c.done.ensures.put;
+          (rw (value_part 4 c.args.t.now) at c.write.ensures.edited) c.done.ensures.put;
     }
 
 pub bounds-t-1-in-Remove : goal.bounds-t-1-in-Remove

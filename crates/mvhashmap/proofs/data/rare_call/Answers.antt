@@ -4,6 +4,7 @@ use native.Mathlib.Omega.{arith}
 use Rattle.versioned_data.proofs.Passed.{passed}
 use Rattle.mvhashmap.proofs.AnswerPuts.{materialized_put, materialized_refused}
 use Rattle.mvhashmap.proofs.ServedData.{serves_edit, serves_materialize}
+use Rattle.mvhashmap.proofs.PartLaws.{rest_all, value_part, part_inside}
 use Rattle.mvhashmap.proofs.ServedKinds.{asked_as, rare_last}
 use Rattle.mvhashmap.proofs.AnswerDones.{set_base_value_done, add_delta_done, mark_estimate_done}
 use Rattle.mvhashmap.proofs.AskedData.{words_inside, base_inside, base_ok, delta_inside, delta_ok_lem, data_served, materialize_served, asks_base, asks_add_delta, asks_estimate, asks_materialize}
@@ -15,13 +16,13 @@ bounds-t-1 c = omega (arith, words_inside _ _ c.requires.asked c.requires.some c
 pub set_base_value-requires : goal.set_base_value-requires
 set_base_value-requires c =
     let a = asked_as _ _ _ c.in-Base.is c.requires.asked in
-    record { valid = c.requires.valid; inside = base_inside _ a; value = base_ok _ a }
+    record { valid = c.requires.valid; inside = part_inside 2 _ _ (base_inside _ a); value = rw (value_part 2 c.args.t.now) (base_ok _ a) }
 
 pub returns-in-Base : goal.returns-in-Base
 returns-in-Base c =
     record {
       served = serves_edit _ _ _ _ _ c.requires.valid _ 0 0 _ (asks_base _ (asked_as _ _ _ c.in-Base.is c.requires.asked)) (set_base_value_done _) _ _
-          c.set_base_value.ensures.edited c.done.ensures.put;
+          (rw (value_part 2 c.args.t.now) at c.set_base_value.ensures.edited) c.done.ensures.put;
     }
 
 pub bounds-t-1-in-AddDelta : goal.bounds-t-1-in-AddDelta
@@ -33,13 +34,13 @@ bounds-t-2 c = omega (arith, words_inside _ _ c.requires.asked c.requires.some c
 pub add_delta-requires : goal.add_delta-requires
 add_delta-requires c =
     let a = asked_as _ _ _ c.in-AddDelta.is c.requires.asked in
-    record { valid = c.requires.valid; served = data_served _ 3 a (omega arith) (omega arith); inside = delta_inside _ a; delta = delta_ok_lem _ a }
+    record { valid = c.requires.valid; served = data_served _ 3 a (omega arith) (omega arith); inside = part_inside 3 _ _ (delta_inside _ a); delta = rw (rest_all 3 c.args.t.now) (delta_ok_lem _ a) }
 
 pub returns-in-AddDelta : goal.returns-in-AddDelta
 returns-in-AddDelta c =
     record {
       served = serves_edit _ _ _ _ _ c.requires.valid _ _ 0 _ (asks_add_delta _ (asked_as _ _ _ c.in-AddDelta.is c.requires.asked)) (add_delta_done _) _ _
-          c.add_delta.ensures.edited c.done-in-AddDelta.ensures.put;
+          (rw (rest_all 3 c.args.t.now) at c.add_delta.ensures.edited) c.done-in-AddDelta.ensures.put;
     }
 
 pub bounds-t-1-in-Estimate : goal.bounds-t-1-in-Estimate
