@@ -1,5 +1,5 @@
 -- What a request of the right shape asks: its fields are within its words, their rule is that of 01, and they stand for what its words ask.
-use mathlib.Core.Path.{◌≡◌, refl, sym, ap, subst, ◌∙◌}
+use mathlib.Core.Path.{◌≡◌, refl, sym, ap, ◌∙◌}
 use mathlib.Core.Bool.{Bool, true, not}
 use mathlib.Core.List.{List}
 use Prim.Native.Nat.{ℕ, ◌+◌, ◌*◌, ◌≤◌, ◌<◌}
@@ -11,11 +11,10 @@ use borrow.Author.Tests.{leb-true}
 use Rattle.lists.proofs.Bools.{and_three}
 use Rattle.delta.specs.Delta.{delta_width, delta_ok}
 use Rattle.types.specs.Value.{value_width, is_deletion}
-use Rattle.request.specs.Table.{Kind, number_of, LastCommitted, Base, Write, AddDelta, Estimate, Remove, Fetch, Materialize, GroupBase, Exchange, GroupWrite, GroupEstimate, GroupRemove, GroupFetch, GroupSize, Finalize, alone, by_set, Row, row, at, table, row_of, kind_of, key_place, index_place, tag_place, incarnation_place, tagged_index_place}
+use Rattle.request.specs.Table.{Kind, number_of, LastCommitted, Base, Write, AddDelta, Estimate, Remove, Fetch, Materialize, GroupBase, Exchange, GroupWrite, GroupEstimate, GroupRemove, GroupFetch, GroupSize, Finalize, alone, by_set, Row, row, at, table, row_of, key_place, index_place, tag_place, incarnation_place, tagged_index_place}
 use Rattle.request.specs.Set.{tags_of}
 use Rattle.request.specs.Request.{row_at, tags_at, tags_by, tags, value_in, delta_in, members, tail_length, shape_ok, exchanged_ok, raw_ok, tag_ok, all, fields_ok, last_index, index_in, index_ok, group_base, group_write, request_as, request_of}
-use Rattle.request.specs.Fields.{kind_at, head_at, kind_asked, set_in, asked_as, asked_at, members_from, meaning_in, RoomIn, rule_in}
-use Rattle.request.specs.declared.head.Head.{Head}
+use Rattle.request.specs.Fields.{kind_at, kind_asked, set_in, asked_as, asked_by, asked_at, members_from, meaning_in, RoomIn, rule_in}
 use Rattle.request.specs.declared.asked.Request.{Request}
 use Rattle.request.specs.declared.asked.Request.TheVariants as Code
 use Rattle.request.proofs.KindNumbers.{row_number, row_by_kind}
@@ -58,6 +57,25 @@ kind_as GroupRemove r t = refl
 kind_as GroupFetch r t = refl
 kind_as GroupSize r t = refl
 kind_as Finalize r t = refl
+
+kind_back : (k : Kind) → (row_of (number_of k)).kind ≡ k
+unfolding row_of table row
+kind_back LastCommitted = refl
+kind_back Base = refl
+kind_back Write = refl
+kind_back AddDelta = refl
+kind_back Estimate = refl
+kind_back Remove = refl
+kind_back Fetch = refl
+kind_back Materialize = refl
+kind_back GroupBase = refl
+kind_back Exchange = refl
+kind_back GroupWrite = refl
+kind_back GroupEstimate = refl
+kind_back GroupRemove = refl
+kind_back GroupFetch = refl
+kind_back GroupSize = refl
+kind_back Finalize = refl
 
 module _ (t : List ℕ) (s : shape_ok t ≡ true) where
   row_is : row_at t ≡ row_of (number_of (row_at t).kind)
@@ -171,25 +189,26 @@ module _ (t : List ℕ) (s : shape_ok t ≡ true) where
   unfolding asked_at request_of
   meaning_at = meaning_as (row_at t).kind row_is
 
-  -- What the code makes of a decoded head.
-  module _ (head : Head) (e : head ≡ head_at t) where
-    kind_told : head.kind ≡ (row_at t).kind
-    unfolding head_at kind_at kind_of row_at
-    kind_told = ap (λ (h : Head). h.kind) e
+  -- What the code makes of the kind.
+  module _ (k : Kind) (e : number_of k ≡ kind_at t) where
+    named : row_of (number_of k) ≡ row_at t
+    unfolding row_at kind_at
+    named = ap row_of e
 
-    pub kind_whole : (row_of (number_of head.kind)).fixed < length t
-    kind_whole = rw (kind_told, sym row_is) (shape_whole t s)
+    pub asked_told : asked_by k t ≡ asked_at t
+    unfolding asked_by asked_at
+    asked_told =
+        let kind : k ≡ (row_at t).kind = sym (kind_back k) ∙ ap (λ (r : Row). r.kind) named in
+        rw (named, ← kind) refl
 
-    module _ (r : Request) (asked : r ≡ asked_as head.kind (row_of (number_of head.kind)) t) where
-      pub asked_told : r ≡ asked_at t
-      unfolding asked_at
-      asked_told = asked ∙ rw (kind_told, sym row_is) refl
+    pub kind_whole : (row_of (number_of k)).fixed < length t
+    kind_whole = rw named (shape_whole t s)
 
-      pub room_told : RoomIn t r
-      room_told = subst (RoomIn t) (sym asked_told) room_at
+    pub kind_room : RoomIn t (asked_by k t)
+    kind_room = rw asked_told room_at
 
-      pub rule_told : (b : Bool) → b ≡ rule_in t r → b ≡ fields_ok (row_at t).kind t
-      rule_told b o = o ∙ ap (rule_in t) asked_told ∙ rule_at
+    pub kind_rule : (b : Bool) → b ≡ rule_in t (asked_by k t) → b ≡ fields_ok (row_at t).kind t
+    kind_rule b o = o ∙ ap (rule_in t) asked_told ∙ rule_at
 
   module _ (r : fields_ok (row_at t).kind t ≡ true) (i : index_ok t ≡ true) where
     served_as : (k : Kind) → row_at t ≡ row_of (number_of k) → fields_ok k t ≡ true → index_in (row_at t).index t ≡ true → Served (asked_as k (row_at t) t)

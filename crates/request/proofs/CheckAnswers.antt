@@ -1,24 +1,23 @@
--- What the shape of a request says of its length, and what the whole check says.
+-- What the shape of a request says of its length, and what the whole check says to a caller.
 use mathlib.Core.Path.{◌≡◌, refl, sym, ap, ◌∙◌}
-use mathlib.Core.Bool.{Bool, true, false, not, cond}
+use mathlib.Core.Bool.{Bool, true, false, cond}
 use mathlib.Core.List.{List}
-use Prim.Native.Nat.{ℕ, ◌+◌, ◌*◌, ◌≤◌, ◌<◌}
+use Prim.Native.Nat.{ℕ, ◌+◌, ◌≤◌, ◌<◌}
 use native.Mathlib.Omega.{arith}
 use lib.Dec.{eqb, ltb}
 use lib.ListN.{length}
 use Rattle.std.specs.Prelude.{Ok, Err}
-use borrow.Author.Tests.{ltb-true, eqb-true, not-true, not-false}
+use borrow.Author.Tests.{ltb-true, eqb-true}
 use Rattle.lists.proofs.Bools.{and_left, and_right, and_three}
 use Rattle.types.specs.Refusal.{wrong_count, bad_field, index_too_high, refusal_number, result_number}
-use Rattle.request.specs.Table.{by_set, longest_of, longest_count}
-use Rattle.request.specs.Request.{row_at, count_of, tags_by, tags, tail_length, tail_ok, count_ok, shape_ok, fields_ok, index_ok, refusal_of}
+use Rattle.request.specs.Table.{longest_of, longest_count}
+use Rattle.request.specs.Request.{row_at, count_of, tail_length, tail_ok, count_ok, shape_ok, fields_ok, index_ok, refusal_of}
 use Rattle.request.specs.Fields.{kind_at, asked_at}
 use Rattle.request.specs.Checked.{refusal_named, check_of}
 use Rattle.request.specs.declared.asked.Request.{Request}
 use Rattle.types.specs.declared.refusal.Refusal.{Refusal}
-use Rattle.types.specs.declared.refusal.Refusal.TheVariants.{WrongCount, BadField, IndexTooHigh}
 use Rattle.request.proofs.KindNumbers.{there_small}
-use Rattle.request.proofs.Shapes.{row_at_bounds, shape_empty}
+use Rattle.request.proofs.Shapes.{row_at_bounds}
 use Rattle.request.proofs.TableTails.{tail_length_le}
 
 -- ---- lengths
@@ -38,10 +37,6 @@ module _ (t : List ℕ) (s : shape_ok t ≡ true) where
   pub shape_length : length t ≡ (row_at t).fixed + tail_length (row_at t).tail (row_at t).fixed t + 1
   shape_length = eqb-true _ _ parts.1 ∙ ap (λ (n : ℕ). n + 1) counted
 
-  pub shape_values : (each : ℕ) → (row_at t).tail ≡ by_set each → length t ≡ (row_at t).fixed + each * length (tags t) + 1
-  unfolding tags tags_by tail_length
-  shape_values each q = rw q (rw q at shape_length)
-
   -- No request of the right shape is of a kind that is absent.
   pub shape_small : kind_at t < 16
   unfolding count_ok row_at kind_at
@@ -53,35 +48,6 @@ module _ (t : List ℕ) (s : shape_ok t ≡ true) where
   shape_longest =
       let tail = tail_length_le (row_at t).fixed t (row_at t).tail (and_left (tail_ok (row_at t).tail t) _ parts.2) in
       omega (arith, counted, (row_at_bounds t).longest_le)
-
--- ---- the refusal, from the three tests
-
-pub check_empty : (t : List ℕ) → length t ≤ 0 → Err WrongCount ≡ check_of t
-unfolding check_of refusal_of
-check_empty t h = rw (sym (shape_empty t h)) refl
-
-module _ (t : List ℕ) (a : Bool) (s : a ≡ shape_ok t) where
-  pub check_shape : not a ≡ true → Err WrongCount ≡ check_of t
-  unfolding check_of refusal_of
-  check_shape h = rw (sym s ∙ not-true a h) refl
-
-  module _ (shaped : not a ≡ false) where
-    pub shape_true : shape_ok t ≡ true
-    shape_true = sym s ∙ not-false a shaped
-
-    module _ (b : Bool) (f : b ≡ fields_ok (row_at t).kind t) where
-      pub check_fields : not b ≡ true → Err BadField ≡ check_of t
-      unfolding check_of refusal_of
-      check_fields h = rw (shape_true, sym f ∙ not-true b h) refl
-
-      module _ (ruled : not b ≡ false) (c : Bool) (i : c ≡ index_ok t) where
-        pub check_index : not c ≡ true → Err IndexTooHigh ≡ check_of t
-        unfolding check_of refusal_of
-        check_index h = rw (shape_true, sym f ∙ not-false b ruled, sym i ∙ not-true c h) refl
-
-        pub check_accepted : not c ≡ false → (g : Request) → g ≡ asked_at t → Ok g ≡ check_of t
-        unfolding check_of refusal_of
-        check_accepted h g e = rw (shape_true, sym f ∙ not-false b ruled, sym i ∙ not-false c h, e) refl
 
 -- ---- what a caller of the check learns
 

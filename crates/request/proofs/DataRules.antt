@@ -6,22 +6,21 @@ use Prim.Native.Nat.{ℕ, zero, suc, ◌+◌, ◌-◌, ◌/◌, ◌%◌, ◌^◌
 use native.Mathlib.Nat.{add-zero}
 use native.Mathlib.Omega.{arith}
 use lib.Dec.{eqb, leb, ltb}
-use lib.ListN.{length, get_or, take, drop, length-drop}
-use lib.Seq.{get_or-take, get_or-drop, take_all}
-use borrow.Author.Tests.{lt-ltb, eq-eqb, ne_eqb, eqb-true, le-leb, lt-leb}
+use lib.ListN.{length, get_or, take, drop}
+use lib.Seq.{get_or-take, get_or-drop}
+use borrow.Author.Tests.{lt-ltb, eq-eqb, ne_eqb, eqb-true}
 use Rattle.lists.proofs.Bools.{and_three}
-use Rattle.delta.specs.Delta.{delta_ok}
 use Rattle.types.specs.Value.{value_width, value_at, value_ok, is_exchanged}
 use Rattle.types.specs.Response.{count_in}
 use Rattle.types.specs.Refusal.{wrong_count, bad_field, index_too_high}
-use Rattle.request.specs.Table.{Kind, number_of, LastCommitted, Base, Write, AddDelta, Estimate, Remove, Fetch, Materialize, GroupBase, Exchange, GroupWrite, GroupEstimate, GroupRemove, GroupFetch, GroupSize, Finalize, alone, row, at, table, row_of, longest_count, index_place}
-use Rattle.request.specs.Request.{row_at, count_of, tail_length, tail_ok, count_ok, shape_ok, exchanged_ok, value_in, delta_in, fields_ok, last_index, index_in, index_ok, refusal_of}
-use Rattle.request.specs.Rows.{added_to, layout, cells_of}
-use Rattle.request.specs.Fields.{kind_at}
+use Rattle.request.specs.Table.{Kind, number_of, LastCommitted, Base, Write, AddDelta, Estimate, Remove, Fetch, Materialize, GroupBase, Exchange, GroupWrite, GroupEstimate, GroupRemove, GroupFetch, GroupSize, Finalize, alone, row, at, table, row_of, index_place}
+use Rattle.request.specs.Request.{row_at, count_of, tail_length, tail_ok, count_ok, shape_ok, exchanged_ok, fields_ok, last_index, index_in, index_ok, refusal_of}
+use Rattle.request.specs.Rows.{added_to, cells_of}
+use Rattle.request.specs.Fields.{kind_at, asked_by, RoomIn, rule_in}
 use Rattle.request.specs.declared.table.Cells.{Cells}
 use Rattle.request.proofs.KindNumbers.{row_named}
-use Rattle.request.proofs.Shapes.{fixed_few}
-use Rattle.request.proofs.CheckAnswers.{shape_whole, shape_length}
+use Rattle.request.proofs.CheckAnswers.{shape_length}
+use Rattle.request.proofs.AskedRules.{kind_room, kind_rule}
 
 -- ---- the rows of the data kinds
 
@@ -47,12 +46,6 @@ unfolding row_of table row
 data_fixed =
     each_data (λ k. 2 ≤ (row_of k).fixed) (omega arith) (omega arith) (omega arith) (omega arith) (omega arith) (omega arith) (omega arith)
 
-free : (t : List ℕ) (k : ℕ) → 1 ≤ k → k ≤ 7 → 3 < k → fields_ok (row_of k).kind t ≡ true
-unfolding row_of table row fields_ok
-free t =
-    each_data (λ k. 3 < k → fields_ok (row_of k).kind t ≡ true) (λ h. absurd (omega arith)) (λ h. absurd (omega arith)) (λ h. absurd (omega arith)) (λ h. refl)
-    (λ h. refl) (λ h. refl) (λ h. refl)
-
 index_bound_lem : (t : List ℕ) (k : ℕ) → 1 ≤ k → k ≤ 7 → 1 < k
     → leb (get_or t index_place 0) (4294967295 - added_to (row_of k).index) ≡ index_in (row_of k).index t
 unfolding row_of table row at added_to last_index index_in
@@ -64,26 +57,7 @@ no_index : (t : List ℕ) (k : ℕ) → k ≡ 1 → index_in (row_of k).index t 
 unfolding row_of table row index_in
 no_index t k e = rw e refl
 
--- The data kinds but for the three whose fields have rules.
-pub the_rest : (k : Kind) → 1 ≤ number_of k → (k ≡ Base → ⊥) → (k ≡ Write → ⊥) → (k ≡ AddDelta → ⊥) → 3 < number_of k
-the_rest LastCommitted low a b c = absurd (omega arith)
-the_rest Base low a b c = absurd (a refl)
-the_rest Write low a b c = absurd (b refl)
-the_rest AddDelta low a b c = absurd (c refl)
-the_rest Estimate low a b c = omega arith
-the_rest Remove low a b c = omega arith
-the_rest Fetch low a b c = omega arith
-the_rest Materialize low a b c = omega arith
-the_rest GroupBase low a b c = omega arith
-the_rest Exchange low a b c = omega arith
-the_rest GroupWrite low a b c = omega arith
-the_rest GroupEstimate low a b c = omega arith
-the_rest GroupRemove low a b c = omega arith
-the_rest GroupFetch low a b c = omega arith
-the_rest GroupSize low a b c = omega arith
-the_rest Finalize low a b c = omega arith
-
--- The least of them.
+-- The first of them has no index.
 pub not_first : (k : Kind) → 1 ≤ number_of k → (k ≡ Base → ⊥) → 1 < number_of k
 not_first LastCommitted low a = absurd (omega arith)
 not_first Base low a = absurd (a refl)
@@ -101,14 +75,6 @@ not_first GroupRemove low a = omega arith
 not_first GroupFetch low a = omega arith
 not_first GroupSize low a = omega arith
 not_first Finalize low a = omega arith
-
--- ---- the index
-
-pub index_high : (x last : ℕ) → last < x → ◌≡◌ {A = ℕ} index_too_high (cond (leb x last) 0 index_too_high)
-index_high x last h = rw (lt-leb x last h) refl
-
-pub index_served : (x last : ℕ) → x ≤ last → ◌≡◌ {A = ℕ} 0 (cond (leb x last) 0 index_too_high)
-index_served x last h = rw (le-leb x last h) refl
 
 -- ---- the fields
 
@@ -129,44 +95,14 @@ exchanged_at : (t : List ℕ) (place : ℕ) → is_exchanged (value_at place t) 
 unfolding is_exchanged value_at
 exchanged_at t place = ap (λ (x : ℕ). eqb (x / 2 ^ 29 % 2) 1) (head_at_lem t place)
 
-module _ (t : List ℕ) (s : shape_ok t ≡ true) (kind : ℕ) (e : kind ≡ kind_at t) where
-  module _ (n : ℕ) (k : kind ≡ n) where
-    place : (row_of n).value ≡ (row_at t).value
-    place = rw (row_named t kind e n k) refl
+pub data_raw : (t : List ℕ) (place : ℕ) → (get_or t place 0 / 2 ^ 29 % 2 ≡ 1 → ⊥) → false ≡ exchanged_ok (value_at place t)
+unfolding exchanged_ok
+data_raw t place h = rw (exchanged_at t place, ne_eqb (get_or t place 0 / 2 ^ 29 % 2) 1 h) (and-false (value_ok (value_at place t)))
 
-    rules : fields_ok (row_of n).kind t ≡ fields_ok (row_at t).kind t
-    rules = rw (row_named t kind e n k) refl
-
-    -- the words of a value or of a delta
-    pub data_room : (width : ℕ) → (row_of n).value + width ≤ (row_of n).fixed + 1 → (row_of n).value + width ≤ length t
-    data_room width h = let long = rw (row_named t kind e n k) at (shape_whole t s) in omega arith
-
-  pub data_base : kind ≡ 1 → (b : Bool) → b ≡ value_ok (value_at 2 t) → b ≡ fields_ok (row_at t).kind t
-  unfolding row_of table row fields_ok value_in
-  data_base k b o = o ∙ ap (λ (p : ℕ). value_ok (value_at p t)) (place 1 k) ∙ rules 1 k
-
-  write_side : kind ≡ 2 → (b : Bool) → b ≡ exchanged_ok (value_at 4 t) → b ≡ fields_ok (row_at t).kind t
-  unfolding row_of table row fields_ok value_in
-  write_side k b o = o ∙ ap (λ (p : ℕ). exchanged_ok (value_at p t)) (place 2 k) ∙ rules 2 k
-
-  pub data_free : 1 ≤ kind → kind ≤ 7 → 3 < kind → true ≡ fields_ok (row_at t).kind t
-  data_free low high h = rw (row_named t kind e kind refl) (sym (free t kind low high h))
-
-  pub data_raw : kind ≡ 2 → (get_or t 4 0 / 2 ^ 29 % 2 ≡ 1 → ⊥) → false ≡ fields_ok (row_at t).kind t
-  unfolding exchanged_ok
-  data_raw k h = write_side k false (rw (exchanged_at t 4, ne_eqb (get_or t 4 0 / 2 ^ 29 % 2) 1 h) (and-false (value_ok (value_at 4 t))))
-
-  pub data_write : kind ≡ 2 → get_or t 4 0 / 2 ^ 29 % 2 ≡ 1 → (b : Bool) → b ≡ value_ok (value_at 4 t) → b ≡ fields_ok (row_at t).kind t
-  unfolding exchanged_ok
-  data_write k h b o =
-      write_side k b (rw (exchanged_at t 4, eq-eqb (get_or t 4 0 / 2 ^ 29 % 2) 1 h) (o ∙ and-true (value_ok (value_at 4 t))))
-
-  pub data_delta : kind ≡ 3 → (b : Bool) → b ≡ delta_ok (take 17 (drop 3 t)) → b ≡ fields_ok (row_at t).kind t
-  unfolding row_of table row fields_ok delta_in tail_length
-  data_delta k b o =
-      let exact = rw (row_named t kind e 3 k) at (shape_length t s) in
-      let all_of : take 17 (drop 3 t) ≡ drop 3 t = take_all 17 (drop 3 t) (omega (arith, length-drop 3 t)) in
-      o ∙ ap delta_ok all_of ∙ ap (λ (p : ℕ). delta_ok (drop p t)) (place 3 k) ∙ rules 3 k
+pub data_exchanged : (t : List ℕ) (place : ℕ) → get_or t place 0 / 2 ^ 29 % 2 ≡ 1 → (b : Bool) → b ≡ value_ok (value_at place t) → b ≡ exchanged_ok (value_at place t)
+unfolding exchanged_ok
+data_exchanged t place h b o =
+    rw (exchanged_at t place, eq-eqb (get_or t place 0 / 2 ^ 29 % 2) 1 h) (o ∙ and-true (value_ok (value_at place t)))
 
 -- ---- the whole
 
@@ -174,12 +110,12 @@ refused_shape : (t : List ℕ) → shape_ok t ≡ false → wrong_count ≡ refu
 unfolding refusal_of
 refused_shape t e = rw e refl
 
-module _ (t : List ℕ) (kind : ℕ) (e : kind ≡ kind_at t) (low : 1 ≤ kind) (high : kind ≤ 7) where
-  row_is : row_at t ≡ row_of kind
-  row_is = row_named t kind e kind refl
+module _ (t : List ℕ) (k : Kind) (e : number_of k ≡ kind_at t) (low : 1 ≤ number_of k) (high : number_of k ≤ 7) where
+  row_is : row_at t ≡ row_of (number_of k)
+  row_is = row_named t (number_of k) e (number_of k) refl
 
   tail_is : (row_at t).tail ≡ alone
-  tail_is = rw row_is (data_alone kind low high)
+  tail_is = rw row_is (data_alone (number_of k) low high)
 
   -- What a request of the right shape counts, and has.
   counts : shape_ok t ≡ true → (length t ≡ (row_at t).fixed + 1) × (count_of t ≡ (row_at t).fixed)
@@ -189,15 +125,12 @@ module _ (t : List ℕ) (kind : ℕ) (e : kind ≡ kind_at t) (low : 1 ≤ kind)
       let parts = and_three (ltb (row_at t).fixed (length t)) (eqb (length t) (count_of t + 1)) (count_ok (row_at t).tail (row_at t).fixed t) s in
       (whole, omega (arith, eqb-true (length t) (count_of t + 1) parts.1))
 
-  module _ (c : Cells) (l : c ≡ cells_of (row_of kind)) where
+  module _ (c : Cells) (l : c ≡ cells_of (row_of (number_of k))) where
     fixed_is : c.0 ≡ (row_at t).fixed
     fixed_is = rw row_is (ap (λ (x : Cells). x.0) l)
 
-    added_is : c.3 ≡ added_to (row_of kind).index
+    added_is : c.3 ≡ added_to (row_of (number_of k)).index
     added_is = ap (λ (x : Cells). x.3) l
-
-    pub data_few : c.0 ≤ longest_count
-    data_few = rw fixed_is (fixed_few t (layout (row_at t)) refl)
 
     pub refused_length : (length t ≡ c.0 + 1 → ⊥) → wrong_count ≡ refusal_of t
     refused_length h = refused_shape t (go (shape_ok t) refl)
@@ -207,7 +140,7 @@ module _ (t : List ℕ) (kind : ℕ) (e : kind ≡ kind_at t) (low : 1 ≤ kind)
         go true s = absurd (h (rw fixed_is (counts s).0))
 
     pub index_inside : c.0 < length t → index_place < length t
-    index_inside h = let a : 2 ≤ (row_at t).fixed = rw row_is (data_fixed kind low high) in omega (arith, fixed_is)
+    index_inside h = let a : 2 ≤ (row_at t).fixed = rw row_is (data_fixed (number_of k) low high) in omega (arith, fixed_is)
 
     module _ (n : ℕ) (m : n ≡ count_in (get_or t 0 0)) where
       count_is : n ≡ count_of t
@@ -222,7 +155,7 @@ module _ (t : List ℕ) (kind : ℕ) (e : kind ≡ kind_at t) (low : 1 ≤ kind)
           go true s = absurd (h (rw fixed_is (count_is ∙ (counts s).1)))
 
       module _ (long : length t ≡ c.0 + 1) (f : n ≡ c.0) where
-        pub data_shape : shape_ok t ≡ true
+        data_shape : shape_ok t ≡ true
         unfolding shape_ok count_ok tail_ok tail_length
         data_shape =
             let m : count_of t ≡ (row_at t).fixed = sym count_is ∙ f ∙ fixed_is in
@@ -230,17 +163,23 @@ module _ (t : List ℕ) (kind : ℕ) (e : kind ≡ kind_at t) (low : 1 ≤ kind)
             let b : length t ≡ count_of t + 1 = omega (arith, fixed_is) in
             rw (tail_is, lt-ltb (row_at t).fixed (length t) a, eq-eqb (length t) (count_of t + 1) b, eq-eqb (count_of t) ((row_at t).fixed + 0) (omega arith)) refl
 
-        module _ (b : Bool) (g : b ≡ fields_ok (row_at t).kind t) where
+        pub data_room : RoomIn t (asked_by k t)
+        data_room = kind_room t data_shape k e
+
+        module _ (b : Bool) (o : b ≡ rule_in t (asked_by k t)) where
+          g : b ≡ fields_ok (row_at t).kind t
+          g = kind_rule t data_shape k e b o
+
           pub refused_field : b ≡ false → bad_field ≡ refusal_of t
           unfolding refusal_of
           refused_field h = rw (data_shape, sym g ∙ h) refl
 
-          pub none_refused : b ≡ true → kind ≡ 1 → 0 ≡ refusal_of t
+          pub none_refused : b ≡ true → k ≡ Base → 0 ≡ refusal_of t
           unfolding refusal_of index_ok
-          none_refused h k = rw (data_shape, sym g ∙ h, row_is, no_index t kind k) refl
+          none_refused h base = rw (data_shape, sym g ∙ h, row_is, no_index t (number_of k) (ap number_of base)) refl
 
-          pub refused_index : (x : ℕ) → x ≡ cond (leb (get_or t index_place 0) (4294967295 - c.3)) 0 index_too_high → b ≡ true → 1 < kind → x ≡ refusal_of t
+          pub refused_index : (x : ℕ) → x ≡ cond (leb (get_or t index_place 0) (4294967295 - c.3)) 0 index_too_high → b ≡ true → 1 < number_of k → x ≡ refusal_of t
           unfolding refusal_of index_ok
           refused_index x y h more =
-              let i : x ≡ cond (index_in (row_of kind).index t) 0 index_too_high = y ∙ rw (added_is, index_bound_lem t kind low high more) refl in
+              let i : x ≡ cond (index_in (row_of (number_of k)).index t) 0 index_too_high = y ∙ rw (added_is, index_bound_lem t (number_of k) low high more) refl in
               rw (data_shape, sym g ∙ h, row_is) i

@@ -54,10 +54,6 @@ module _ (t : List ℕ) (kind : ℕ) (e : kind ≡ kind_at t) where
   unfolding row_at kind_at
   row_named n f = ap row_of (sym e ∙ f)
 
-  pub kind_number : kind < 16 → number_of (row_at t).kind ≡ kind
-  unfolding row_at kind_at
-  kind_number h = rw (← e) (row_number kind h)
-
 pub number_small : (k : Kind) → number_of k < 16
 number_small LastCommitted = omega arith
 number_small Base = omega arith

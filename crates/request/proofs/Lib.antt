@@ -4,6 +4,7 @@ mod FieldRules
 mod IndexRules
 pub mod KindNumbers
 pub mod CheckPasses
+mod CheckSteps
 mod CheckSamples
 pub mod Shapes
 pub mod TableRule

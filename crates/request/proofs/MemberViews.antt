@@ -27,15 +27,19 @@ unfolding members_in members_of
 members_none m e = rw e refl
 
 -- A slice of words from a place on.
-rest_all : (at : ℕ) (ws : List ℕ) → take (length ws - at) (drop at ws) ≡ drop at ws
+pub rest_all : (at : ℕ) (ws : List ℕ) → take (length ws - at) (drop at ws) ≡ drop at ws
 rest_all at ws = take_all (length ws - at) (drop at ws) (omega (arith, length-drop at ws))
 
 pub members_some : (m n : Members) (tag : ℕ) (v : ValueWithLayout) → tags_of m.set.low m.set.high ≡ tag ∷ tags_of n.set.low n.set.high
-    → words_of v ≡ value_at 0 m.values.now
+    → words_of v ≡ take value_width m.values.now
     → n.values.now ≡ take (length m.values.now - value_width) (drop value_width m.values.now)
     → members_in m ≡ record { tag = tag; value = words_of v } ∷ members_in n
-unfolding members_in members_of value_at
+unfolding members_in members_of
 members_some m n tag v e f g = rw (e, f, g, rest_all value_width m.values.now) refl
+
+pub value_sliced : (at : ℕ) (ws : List ℕ) → take value_width (take (length ws - at) (drop at ws)) ≡ value_at at ws
+unfolding value_at
+value_sliced at ws = ap (take value_width) (rest_all at ws)
 
 pub members_sliced : (m : Members) (at : ℕ) (t : List ℕ) → m.values.now ≡ take (length t - at) (drop at t) → members_in m ≡ members_from m.set at t
 unfolding members_in members_from

@@ -3,12 +3,11 @@ use mathlib.Core.Path.{◌≡◌, refl, sym}
 use mathlib.Core.List.{List, [], ◌∷◌, ◌++◌}
 use Prim.Native.Nat.{ℕ, zero, suc, ◌+◌, ◌-◌, ◌*◌, ◌/◌, ◌%◌, ◌^◌, ◌≤◌, ◌<◌}
 use native.Mathlib.Nat.{le_refl, zero-add, mod-eq_of_lt, one-mul, pow-suc, add-zero, add-suc, suc-add}
-use native.Mathlib.Decide.{dec_le, ℕ_discrete}
+use native.Mathlib.Decide.{ℕ_discrete}
 use native.Mathlib.Omega.{arith}
 use lib.Arith.{lt-one}
-use lib.Count.{ones, ones-le, ones_step, count_trailing_zeros}
+use lib.Count.{ones, ones_step, count_trailing_zeros}
 use lib.ListN.{length, length-append}
-use lib.Pow.{pow_mono}
 use Rattle.types.specs.Response.{most_tags}
 use Rattle.request.specs.Set.{tags_from, tags_of}
 
@@ -93,13 +92,6 @@ tags_split (suc n) t w p h = go (tags_split n (suc t) (w / 2)) (ℕ_discrete (w 
         let d : (w - 1) / 2 ≡ w / 2 = omega (arith, odd w f) in
         rw (tags_odd n t w (odd w f), trailing_odd n w (odd w f), tags_even n t (w - 1) e, d, add-zero) refl
 
-pub lowest_lt : (n w : ℕ) → 0 < w → w < 2 ^ n → count_trailing_zeros n w < n
-lowest_lt n w p h = go (dec_le n (count_trailing_zeros n w))
-  where
-    go : Dec (n ≤ count_trailing_zeros n w) → count_trailing_zeros n w < n
-    go (yes g) = absurd (omega (arith, pow_mono g, lowest_le n w p h))
-    go (no g) = omega arith
-
 -- What `1 << trailing_zeros` is: nothing is shifted out.
 pub lowest_one : (n w : ℕ) → 0 < w → w < 2 ^ n → (1 * 2 ^ count_trailing_zeros n w) % 2 ^ n ≡ 2 ^ count_trailing_zeros n w
 lowest_one n w p h = rw one-mul (mod-eq_of_lt (omega (arith, lowest_le n w p h)))
@@ -114,9 +106,6 @@ module _ (low high : ℕ) (l : low < 2 ^ 32) (h : high < 2 ^ 32) where
   pub tags_count : ones low + ones high ≡ length (tags_of low high)
   unfolding tags_of
   tags_count = rw (length-append, tags_ones 32 0 low l, tags_ones 32 32 high h) refl
-
-  pub tags_at_most : ones low + ones high ≤ most_tags
-  tags_at_most = omega (arith, ones-le 32 low l, ones-le 32 high h)
 
   pub tags_low : 0 < low → tags_of low high ≡ count_trailing_zeros 32 low ∷ tags_of (low - 2 ^ count_trailing_zeros 32 low) high
   unfolding tags_of

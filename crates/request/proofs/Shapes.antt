@@ -8,7 +8,7 @@ use native.Mathlib.Omega.{arith}
 use lib.Dec.{eqb}
 use lib.ListN.{length, get_or}
 use borrow.Author.Tests.{le-leb, lt-leb, lt-ltb, le-ltb, eq-eqb, ne_eqb}
-use Rattle.types.specs.Response.{most_tags, set_width, kind_in, count_in}
+use Rattle.types.specs.Response.{most_tags, kind_in, count_in}
 use Rattle.request.specs.Table.{Kind, number_of, kind_of, alone, by_set, by_count, absent, row_of, longest_of, longest_count}
 use Rattle.request.specs.Set.{tags_of}
 use Rattle.request.specs.Request.{row_at, count_of, tags_at, tail_ok, tail_length, count_ok, shape_ok}
@@ -43,9 +43,6 @@ head_is t few kind count row k c r =
     let q : row ≡ layout (row_of (kind_in (get_or t 0 0))) = r ∙ ap (λ (m : ℕ). layout (row_of m)) n in
     λ i. record { kind = k i; count = c i; row = q i }
 
-pub has_key : (t : List ℕ) → (row_at t).fixed < length t → 1 < length t
-has_key t h = omega (arith, (row_at_bounds t).fixed_pos)
-
 pub shape_empty : (t : List ℕ) → length t ≤ 0 → false ≡ shape_ok t
 unfolding shape_ok
 shape_empty t h = rw (le-ltb (row_at t).fixed (length t) (omega arith)) refl
@@ -78,11 +75,8 @@ module _ (t : List ℕ) (row : CodeRow) (e : row ≡ layout (row_at t)) where
     counter_le = omega (arith, fixed_is, counter_held place most each (row_at t).fixed (rw is_counted at (row_at_bounds t).tail_held))
 
   module _ (whole : (row_at t).fixed < length t) where
-    fixed_inside : row.fixed < length t
+    pub fixed_inside : row.fixed < length t
     fixed_inside = omega (arith, fixed_is)
-
-    pub set_room : (each : ℕ) → row.tail ≡ BySet each → row.fixed - 1 + set_width ≤ length t
-    set_room each f = omega (arith, set_inside each f, fixed_inside)
 
     pub counter_inside : (place most each : ℕ) → row.tail ≡ ByCount place most each → place < length t
     counter_inside place most each f = omega (arith, counter_le place most each f, fixed_inside)
@@ -116,16 +110,14 @@ module _ (t : List ℕ) (head : Head) (e : head ≡ head_at t) where
       let is : (row_at t).tail ≡ alone = alone_told (row_at t).tail (sym (tail_is t head.row row_of_lem) ∙ f) in
       rw (count_is, fixed_is t head.row row_of_lem, is, add-zero) refl
 
-  module _ (each : ℕ) (by-set : head.row.tail ≡ BySet each) (set : Set) (s : set ≡ set_of (get_or t (head.row.fixed - 1) 0) (get_or t (head.row.fixed - 1 + 1) 0)) (n : ℕ) (l : n ≡ length (tags_of set.low set.high)) where
+  module _ (each : ℕ) (by-set : head.row.tail ≡ BySet each) (set : Set) (s : set ≡ set_of (get_or t (head.row.fixed - 1) 0) (get_or t head.row.fixed 0)) (n : ℕ) (l : n ≡ length (tags_of set.low set.high)) where
     is_tail : (row_at t).tail ≡ by_set each
     is_tail = is_set t head.row row_of_lem each by-set
 
     tags_are : n ≡ length (tags_at (row_at t).fixed t)
     unfolding tags_at
     tags_are =
-        let last : head.row.fixed - 1 + 1 ≡ (row_at t).fixed = omega (arith, set_inside t head.row row_of_lem each by-set, fixed_is t head.row row_of_lem) in
-        let first : head.row.fixed - 1 ≡ (row_at t).fixed - 1 = omega (arith, fixed_is t head.row row_of_lem) in
-        l ∙ ap (λ (x : Set). length (tags_of x.low x.high)) s ∙ rw (last, first) refl
+        l ∙ ap (λ (x : Set). length (tags_of x.low x.high)) s ∙ rw (fixed_is t head.row row_of_lem) refl
 
     pub set_fits : head.row.fixed + each * n ≤ longest_count
     unfolding longest_of

@@ -4,7 +4,7 @@ use Rattle.std.specs.Prelude.{Bool, true, false, ◌&&◌, not, List, ℕ, ◌+�
 use Rattle.delta.specs.Delta.{delta_width, delta_at, delta_ok}
 use Rattle.types.specs.Value.{value_width, value_at, value_ok, is_deletion}
 use Rattle.types.specs.Response.{kind_in}
-use Rattle.request.specs.Table.{Kind, LastCommitted, Base, Write, AddDelta, Estimate, Remove, Fetch, Materialize, GroupBase, Exchange, GroupWrite, GroupEstimate, GroupRemove, GroupFetch, GroupSize, Finalize, Row, kind_of, key_place, index_place, tag_place, tagged_index_place, incarnation_place}
+use Rattle.request.specs.Table.{Kind, LastCommitted, Base, Write, AddDelta, Estimate, Remove, Fetch, Materialize, GroupBase, Exchange, GroupWrite, GroupEstimate, GroupRemove, GroupFetch, GroupSize, Finalize, Row, row_of, number_of, kind_of, key_place, index_place, tag_place, tagged_index_place, incarnation_place}
 use Rattle.request.specs.Set.{Member, tags_of, members_of}
 use Rattle.request.specs.Request.{row_at, count_of, exchanged_ok, raw_ok, tag_ok, all, Request, last_committed, base, write, add_delta, estimate, remove, fetch, materialize, group_base, exchange, group_write, group_estimate, group_remove, group_fetch, group_size, finalize}
 use Rattle.request.specs.Rows.{layout}
@@ -51,6 +51,10 @@ asked_as GroupFetch r t = Code.GroupFetch (get_or t key_place 0) (get_or t tag_p
 asked_as GroupSize r t = Code.GroupSize (get_or t key_place 0) (get_or t index_place 0)
 asked_as Finalize r t = Code.Finalize (get_or t key_place 0) (get_or t index_place 0)
 
+unfoldable pub asked_by : Kind → List ℕ → CodeRequest
+asked_by k t = asked_as k (row_of (number_of k)) t
+
+-- What a request asks.
 unfoldable pub asked_at : List ℕ → CodeRequest
 asked_at t = asked_as (row_at t).kind (row_at t) t
 

@@ -1,7 +1,7 @@
 // What a request asks.
 ghost use Rattle.std.specs.Prelude.{◌≡◌, ◌<◌, length};
 ghost use Rattle.request.specs.Table.{number_of, row_of};
-ghost use Rattle.request.specs.Fields.{asked_as};
+ghost use Rattle.request.specs.Fields.{asked_by};
 
 use super::kind::Kind;
 use super::places::{
@@ -88,10 +88,10 @@ pub enum Request {
 }
 
 // The request of a kind whose fixed words are there.
-#[tactic(auto, unfolding(crate::specs::Fields::asked_as, crate::specs::Fields::set_in, crate::specs::Table::row_of, crate::specs::Table::table, crate::specs::Table::row))]
+#[tactic(auto, unfolding(crate::specs::Fields::asked_by, crate::specs::Fields::asked_as, crate::specs::Fields::set_in, crate::specs::Table::row_of, crate::specs::Table::table, crate::specs::Table::row))]
 pub fn request_of(t: &[u32], kind: Kind) -> Request
     requires whole { (row_of (number_of kind)).fixed < length t.now }
-    ensures asked { result ≡ asked_as kind (row_of (number_of kind)) t.now }
+    ensures asked { result ≡ asked_by kind t.now }
 {
     let key = t[KEY];
     match kind {
@@ -129,7 +129,10 @@ pub fn request_of(t: &[u32], kind: Kind) -> Request
         },
         Kind::GroupBase => Request::GroupBase {
             key,
-            set: Set::read(t, BASE_SET),
+            set: Set {
+                low: t[BASE_SET],
+                high: t[BASE_SET + 1],
+            },
             values: BASE_VALUES,
         },
         Kind::Exchange => Request::Exchange {
@@ -141,7 +144,10 @@ pub fn request_of(t: &[u32], kind: Kind) -> Request
             key,
             index: t[INDEX],
             incarnation: t[INCARNATION],
-            set: Set::read(t, WRITE_SET),
+            set: Set {
+                low: t[WRITE_SET],
+                high: t[WRITE_SET + 1],
+            },
             values: WRITE_VALUES,
         },
         Kind::GroupEstimate => Request::GroupEstimate {

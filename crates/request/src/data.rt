@@ -1,9 +1,9 @@
 // Kinds 1 to 7, those of the data store: which of the refusals 2, 3 and 4 a request meets, in one pass. They have no tail, and their places are known.
-ghost use Rattle.std.specs.Prelude.{◌≡◌, true, cond, ◌≤◌, ◌<◌, leb, length, get_or};
+ghost use Rattle.std.specs.Prelude.{◌≡◌, cond, ◌≤◌, ◌<◌, leb, length, get_or};
 ghost use Rattle.types.specs.Refusal.{result_number, index_too_high};
 ghost use Rattle.request.specs.Table.{number_of, index_place};
-ghost use Rattle.request.specs.Request.{row_at, shape_ok, fields_ok, refusal_of};
-ghost use Rattle.request.specs.Fields.{kind_at};
+ghost use Rattle.request.specs.Request.{refusal_of};
+ghost use Rattle.request.specs.Fields.{kind_at, asked_by, RoomIn, rule_in};
 
 use super::kind::Kind;
 use super::places::{BASE_VALUE, DELTA, INDEX, WRITE_VALUE};
@@ -14,12 +14,11 @@ use types::refusal::Refusal;
 use types::{response, value};
 
 // The fields of kinds 1 to 3: a value, an exchanged value, a delta. Those of the others are free.
+#[tactic(auto, unfolding(crate::specs::Fields::RoomIn, crate::specs::Fields::rule_in, crate::specs::Fields::asked_by, crate::specs::Fields::asked_as, crate::specs::Table::row_of, crate::specs::Table::table, crate::specs::Table::row))]
 fn fields_ok(t: &[u32], kind: Kind) -> bool
-    requires shape { shape_ok t.now ≡ true }
-    requires kind { number_of kind ≡ kind_at t.now }
-    requires first { 1 ≤ number_of kind }
+    requires room { RoomIn t.now (asked_by kind t.now) }
     requires last { number_of kind ≤ 7 }
-    ensures rule { result ≡ fields_ok (row_at t.now).kind t.now }
+    ensures rule { result ≡ rule_in t.now (asked_by kind t.now) }
 {
     match kind {
         Kind::Base => value::value_ok(t, BASE_VALUE),

@@ -7,7 +7,7 @@ ghost use Rattle.request.specs.Request.{all, exchanged_ok, tag_ok};
 ghost use Rattle.request.specs.Fields.{side_ok, RoomIn, rule_in};
 
 use super::asked::Request;
-use super::members::{Members, read_value};
+use super::members::{Members, first_value};
 use delta::words;
 use types::value;
 use types::value::{VALUE_WIDTH, ValueWithLayout};
@@ -26,11 +26,12 @@ fn side_ok(v: ValueWithLayout, exchanged: bool) -> bool
 fn values_ok(members: Members, exchanged: bool) -> bool
     ensures rule { result ≡ all (side_ok exchanged) (members_in members.entry) }
 {
-    for i in 0..members.len() {
-        let v = read_value(members.values, VALUE_WIDTH * i);
-        if !side_ok(v, exchanged) {
+    let mut words = members.values;
+    for _i in 0..members.len() {
+        if !side_ok(first_value(words), exchanged) {
             return false;
         }
+        words = &words[VALUE_WIDTH..];
     }
     true
 }
@@ -51,13 +52,13 @@ pub fn fields_ok(t: &[u32], request: Request) -> bool
 {
     match request {
         Request::Base { value, .. } => value::value_ok(t, value),
-        Request::Write { value, .. } => side_ok(read_value(t, value), true),
+        Request::Write { value, .. } => side_ok(first_value(&t[value..]), true),
         Request::AddDelta { delta, .. } => words::is_delta(t, delta),
         Request::GroupBase { set, values, .. } => {
             let values = &t[values..];
             values_ok(Members { set, values }, false)
         }
-        Request::Exchange { tag, value, .. } => exchange_ok(tag, read_value(t, value)),
+        Request::Exchange { tag, value, .. } => exchange_ok(tag, first_value(&t[value..])),
         Request::GroupWrite { set, values, .. } => {
             let values = &t[values..];
             values_ok(Members { set, values }, true)

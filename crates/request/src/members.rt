@@ -1,6 +1,6 @@
 // The members that a request hands over: the tags of a set, and the words of a value for each tag in rising order.
-ghost use Rattle.std.specs.Prelude.{◌≡◌, [], ◌∷◌, ◌+◌, ◌*◌, ◌≤◌, length, IfNone, IfSome};
-ghost use Rattle.types.specs.Value.{value_width, value_at};
+ghost use Rattle.std.specs.Prelude.{◌≡◌, [], ◌∷◌, ◌*◌, ◌≤◌, length, take, IfNone, IfSome};
+ghost use Rattle.types.specs.Value.{value_width};
 ghost use Rattle.types.specs.ValueWithLayout.{words_of};
 ghost use Rattle.request.specs.Set.{tags_of};
 
@@ -14,12 +14,12 @@ pub struct Members<'a> {
     pub ghost inside: { value_width * length (tags_of set.low set.high) ≤ length values.now },
 }
 
-// The value at a place of words.
-pub fn read_value(s: &[u32], at: usize) -> ValueWithLayout
-    requires inside { at + value_width ≤ length s.now }
-    ensures value { words_of result ≡ value_at at s.now }
+// The value that stands first in words.
+pub fn first_value(words: &[u32]) -> ValueWithLayout
+    requires inside { value_width ≤ length words.now }
+    ensures value { words_of result ≡ take value_width words.now }
 {
-    ValueWithLayout::read(s, at)
+    ValueWithLayout::read(words, 0)
 }
 
 impl<'a> Members<'a> {
@@ -38,7 +38,7 @@ impl<'a> Members<'a> {
         ensures bound { IfSome result (λ x. x.0 ≤ 63) }
     {
         let (tag, set) = self.set.split_first()?;
-        let value = read_value(self.values, 0);
+        let value = first_value(self.values);
         let values = &self.values[VALUE_WIDTH..];
         Some((tag, value, Members { set, values }))
     }

@@ -1,10 +1,8 @@
 // A set of tags, 0 to 63, bit n for tag n. The values that follow a set stand in rising order of
 // their tags: the count of ones says how many, and trailing zeros give the next tag.
-ghost use Rattle.std.specs.Prelude.{◌≡◌, [], ◌∷◌, ◌+◌, ◌-◌, ◌^◌, ◌≤◌, ◌<◌, length, get_or, IfNone, IfSome};
+ghost use Rattle.std.specs.Prelude.{◌≡◌, [], ◌∷◌, ◌-◌, ◌^◌, ◌≤◌, ◌<◌, length, IfNone, IfSome};
 ghost use Rattle.std.specs.Int.Count.{count_trailing_zeros};
-ghost use Rattle.types.specs.Response.{set_width};
 ghost use Rattle.request.specs.Set.{tags_of};
-ghost use Rattle.request.specs.Fields.{set_of};
 
 #[derive(Clone, Copy)]
 pub struct Set {
@@ -21,15 +19,6 @@ fn without_lowest(word: u32) -> u32
 }
 
 impl Set {
-    pub fn read(s: &[u32], at: usize) -> Set
-        requires inside { at + set_width ≤ length s.now }
-        ensures set { result ≡ set_of (get_or s.now at 0) (get_or s.now (at + 1) 0) }
-    {
-        let low = s[at];
-        let high = s[at + 1];
-        Set { low, high }
-    }
-
     pub fn len(self) -> usize
         ensures counted { result ≡ length (tags_of self.low self.high) }
     {

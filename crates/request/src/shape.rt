@@ -16,7 +16,13 @@ fn count_ok(t: &[u32], head: Head) -> bool
     let fixed = head.row.fixed;
     match head.row.tail {
         Tail::Alone => head.count == fixed,
-        Tail::BySet(each) => head.count == fixed + each as usize * Set::read(t, fixed - 1).len(),
+        Tail::BySet(each) => {
+            let set = Set {
+                low: t[fixed - 1],
+                high: t[fixed],
+            };
+            head.count == fixed + each as usize * set.len()
+        }
         Tail::ByCount(place, most, each) => {
             let times = t[place as usize] as usize;
             times <= most as usize && head.count == fixed + each as usize * times

@@ -1,11 +1,6 @@
 use native.Mathlib.Omega.{arith}
-use Rattle.request.specs.Table.{number_of}
-use mathlib.Core.Path.{ap}
-use Rattle.request.proofs.DataRules.{not_first, data_few, refused_length, refused_count, data_shape, index_inside, refused_index, refused_field, none_refused}
+use Rattle.request.proofs.DataRules.{not_first, refused_length, refused_count, data_room, index_inside, refused_index, refused_field, none_refused}
 use Rattle.request.proofs.data.data_refusal.Goals as goal
-
-pub overflow_add-fixed : goal.overflow_add-fixed
-overflow_add-fixed c = record { fits = omega (arith, data_few _ _ c.requires.kind c.requires.first c.requires.last _ c.cells_of-cells.ensures.cells) }
 
 pub returns-then-t-fixed : goal.returns-then-t-fixed
 returns-then-t-fixed c = record { refused = refused_length _ _ c.requires.kind c.requires.first c.requires.last _ c.cells_of-cells.ensures.cells c.if-t-fixed.true }
@@ -17,9 +12,7 @@ returns-then-count_in-fixed c =
 pub fields_ok-requires : goal.fields_ok-requires
 fields_ok-requires c =
     record {
-      shape = data_shape _ _ c.requires.kind c.requires.first c.requires.last _ c.cells_of-cells.ensures.cells _ c.count_in.ensures.count c.if-t-fixed.false c.if-count_in-fixed.false;
-      kind = c.requires.kind;
-      first = c.requires.first;
+      room = data_room _ _ c.requires.kind c.requires.first c.requires.last _ c.cells_of-cells.ensures.cells _ c.count_in.ensures.count c.if-t-fixed.false c.if-count_in-fixed.false;
       last = c.requires.last;
     }
 
@@ -30,7 +23,7 @@ returns-then-not-fields_ok c =
 pub returns-in-Base : goal.returns-in-Base
 returns-in-Base c =
     record {
-      refused = none_refused _ _ c.requires.kind c.requires.first c.requires.last _ c.cells_of-cells.ensures.cells _ c.count_in.ensures.count c.if-t-fixed.false c.if-count_in-fixed.false _ c.fields_ok.ensures.rule c.if-not-fields_ok.false (ap number_of c.in-Base.is);
+      refused = none_refused _ _ c.requires.kind c.requires.first c.requires.last _ c.cells_of-cells.ensures.cells _ c.count_in.ensures.count c.if-t-fixed.false c.if-count_in-fixed.false _ c.fields_ok.ensures.rule c.if-not-fields_ok.false c.in-Base.is;
     }
 
 pub index_refusal-requires : goal.index_refusal-requires

@@ -2,12 +2,8 @@
 -- Assumes nothing.
 use mathlib.Core.Path.{ap, ◌∙◌}
 use Rattle.request.specs.Table.{kind_of}
-use Rattle.request.proofs.Shapes.{kind_lt, kind_few, head_is}
+use Rattle.request.proofs.Shapes.{kind_few, head_is}
 use Rattle.request.proofs.head.head_of.Goals as goal
-
-pub of-kind-requires : goal.of-kind-requires
-of-kind-requires c =
-    record { four_bits = kind_lt _ _ (c.type_inv.t 0).fits c.kind_in.ensures.kind }
 
 pub returns : goal.returns
 returns c =

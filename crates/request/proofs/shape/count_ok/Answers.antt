@@ -1,31 +1,39 @@
-use mathlib.Core.Path.{◌∙◌}
+use mathlib.Core.Path.{refl, ◌∙◌}
 use native.Mathlib.Omega.{arith}
 use borrow.Author.Tests.{lt-leb}
-use Rattle.request.proofs.Shapes.{row_of_lem, counter_inside, counts_alone, set_inside, set_room, set_fits, counts_set, counts_over, counted_fits, counts_counted, counts_absent}
+use Rattle.request.proofs.Shapes.{row_of_lem, counter_inside, counts_alone, fixed_few, fixed_inside, set_inside, set_fits, counts_set, counts_over, counted_fits, counts_counted, counts_absent}
 use Rattle.request.proofs.shape.count_ok.Goals as goal
 
 pub returns-in-Alone : goal.returns-in-Alone
 returns-in-Alone c =
     record { rule = counts_alone _ _ c.requires.head c.in-Alone.is }
 
-pub overflow_sub-fixed : goal.overflow_sub-fixed
-overflow_sub-fixed c = omega (arith, set_inside _ _ (row_of_lem _ _ c.requires.head) _ c.in-BySet.is)
+pub overflow_sub-set : goal.overflow_sub-set
+overflow_sub-set c = omega (arith, set_inside _ _ (row_of_lem _ _ c.requires.head) _ c.in-BySet.is)
 
-pub read-requires : goal.read-requires
-read-requires c =
-    record { inside = set_room _ _ (row_of_lem _ _ c.requires.head) c.requires.whole _ c.in-BySet.is }
+pub offset_bounds-t-fixed : goal.offset_bounds-t-fixed
+offset_bounds-t-fixed c = record { fits = omega (arith, fixed_few _ _ (row_of_lem _ _ c.requires.head)) }
+
+pub bounds-t-fixed : goal.bounds-t-fixed
+bounds-t-fixed c = omega (arith, fixed_inside _ _ (row_of_lem _ _ c.requires.head) c.requires.whole)
+
+pub offset_bounds-t-fixed-in-BySet : goal.offset_bounds-t-fixed-in-BySet
+offset_bounds-t-fixed-in-BySet c = record { fits = omega (arith, fixed_few _ _ (row_of_lem _ _ c.requires.head)) }
+
+pub bounds-t-fixed-in-BySet : goal.bounds-t-fixed-in-BySet
+bounds-t-fixed-in-BySet c = fixed_inside _ _ (row_of_lem _ _ c.requires.head) c.requires.whole
 
 pub overflow_mul-result : goal.overflow_mul-result
 overflow_mul-result c =
-    record { fits = omega (arith, set_fits _ _ c.requires.head _ c.in-BySet.is _ c.read.ensures.set _ c.len.ensures.counted) }
+    record { fits = omega (arith, set_fits _ _ c.requires.head _ c.in-BySet.is _ refl _ c.len.ensures.counted) }
 
 pub overflow_add-result : goal.overflow_add-result
 overflow_add-result c =
-    record { fits = omega (arith, set_fits _ _ c.requires.head _ c.in-BySet.is _ c.read.ensures.set _ c.len.ensures.counted) }
+    record { fits = omega (arith, set_fits _ _ c.requires.head _ c.in-BySet.is _ refl _ c.len.ensures.counted) }
 
 pub returns-in-BySet : goal.returns-in-BySet
 returns-in-BySet c =
-    record { rule = counts_set _ _ c.requires.head _ c.in-BySet.is _ c.read.ensures.set _ c.len.ensures.counted }
+    record { rule = counts_set _ _ c.requires.head _ c.in-BySet.is _ refl _ c.len.ensures.counted }
 
 pub bounds-t-place : goal.bounds-t-place
 bounds-t-place c =
