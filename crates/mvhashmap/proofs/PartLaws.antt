@@ -1,15 +1,12 @@
 -- The words of a request from a place on, handed on as a part.
 -- Assumes nothing.
-use mathlib.Core.Path.{◌≡◌, sym, ap, ◌∙◌}
+use mathlib.Core.Path.{◌≡◌, ap, ◌∙◌}
 use mathlib.Core.List.{List}
 use Prim.Native.Nat.{ℕ, ◌+◌, ◌-◌, ◌≤◌}
 use native.Mathlib.Omega.{arith}
 use lib.ListN.{length, take, drop, length-drop}
-use Rattle.std.proofs.Math.Seq.{take-length}
 use Rattle.types.specs.Value.{value_at}
-
-pub rest_all : (k : ℕ) (t : List ℕ) → take (length t - k) (drop k t) ≡ drop k t
-rest_all k t = ap (λ (n : ℕ). take n (drop k t)) (sym (length-drop k t)) ∙ take-length (drop k t)
+use Rattle.request.proofs.MemberViews.{rest_all}
 
 pub value_part : (k : ℕ) (t : List ℕ) → value_at 0 (take (length t - k) (drop k t)) ≡ value_at k t
 unfolding value_at

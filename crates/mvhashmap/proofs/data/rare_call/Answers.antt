@@ -4,7 +4,8 @@ use native.Mathlib.Omega.{arith}
 use Rattle.versioned_data.proofs.Passed.{passed}
 use Rattle.mvhashmap.proofs.AnswerPuts.{materialized_put, materialized_refused}
 use Rattle.mvhashmap.proofs.ServedData.{serves_edit, serves_materialize}
-use Rattle.mvhashmap.proofs.PartLaws.{rest_all, value_part, part_inside}
+use Rattle.request.proofs.MemberViews.{rest_all}
+use Rattle.mvhashmap.proofs.PartLaws.{value_part, part_inside}
 use Rattle.mvhashmap.proofs.ServedKinds.{asked_as, rare_last}
 use Rattle.mvhashmap.proofs.AnswerDones.{set_base_value_done, add_delta_done, mark_estimate_done}
 use Rattle.mvhashmap.proofs.AskedData.{words_inside, base_inside, base_ok, delta_inside, delta_ok_lem, data_served, materialize_served, asks_base, asks_add_delta, asks_estimate, asks_materialize}
