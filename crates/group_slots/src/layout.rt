@@ -1,12 +1,15 @@
 // How updates and committed values stand in slots of 32 words (specs/Layout.antt).
-ghost use Rattle.std.specs.Prelude.{◌≡◌, suc, ◌≤◌};
+ghost use Rattle.std.specs.Prelude.{◌≡◌};
 ghost use Rattle.types.specs.Index.{word_of};
+ghost use Rattle.types.specs.Value.{value_at};
+ghost use Rattle.types.specs.ValueWithLayout.{value_from, words_of};
 ghost use Rattle.group_slots.specs.Layout.{update_place, committed_place};
 ghost use Rattle.group_slots.specs.Kinds.{kind_word, kind_read};
 
-use slots::slot::Place;
+use slots::slot::{Place, Slot};
 use types::index::ShiftedTxnIndex;
 use types::response::MOST_TAGS;
+use types::value::ValueWithLayout;
 
 // What a slot is of.
 #[derive(Clone, Copy, Debug, PartialEq, Eq)]
@@ -56,6 +59,15 @@ pub const AFTER_VALUE: usize = 14;
 pub const AFTER_PARTS: u32 = AFTER_TAGS + 1;
 
 pub const AFTER_TAGS: u32 = MOST_TAGS as u32;
+
+// The value in the slot of a member or of a committed value.
+#[tactic(auto, using(types::proofs::ValueLaws::read_words))]
+pub fn value_in(u: &Slot) -> ValueWithLayout
+    ensures value { result ≡ value_from (value_at 7 u.now) }
+    ensures words { words_of result ≡ value_at 7 u.now }
+{
+    ValueWithLayout::read(u, VALUE)
+}
 
 // The place of a part of an update.
 pub fn update_place(key: u32, at: ShiftedTxnIndex, part: u32) -> Place

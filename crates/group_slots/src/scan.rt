@@ -26,7 +26,7 @@ fn base_ok(u: &Slot) -> bool
     if u[layout::INCARNATION] != 0 {
         return false;
     }
-    u[layout::FLAG] == Flag::Done.word()
+    u[layout::FLAG] == u32::from(Flag::Done)
 }
 
 // Whether the head of a slot is that of a slot of an update.
@@ -40,7 +40,7 @@ fn head_ok(u: &Slot) -> bool
     if u[4] != 0 {
         return false;
     }
-    if Flag::Estimate.word() < u[layout::FLAG] {
+    if u32::from(Flag::Estimate) < u[layout::FLAG] {
         return false;
     }
     base_ok(u)
@@ -57,11 +57,11 @@ fn place_ok(u: &Slot, v: ValueWithLayout) -> bool
 }
 
 // Whether a slot has a member's value after its head.
-#[tactic(auto, using(types::proofs::ValueLaws::read_words), unfolding(crate::specs::Tests::member_test))]
+#[tactic(auto, unfolding(crate::specs::Tests::member_test))]
 fn member_ok(u: &Slot) -> bool
     ensures member { result ≡ member_test u.now }
 {
-    let v = ValueWithLayout::read(u, layout::VALUE);
+    let v = layout::value_in(u);
     if !v.ok() {
         return false;
     }
@@ -86,17 +86,17 @@ fn part_ok(u: &Slot) -> bool
 }
 
 // Whether a slot is that of a committed value.
-#[tactic(auto, using(types::proofs::ValueLaws::read_words), unfolding(crate::specs::Tests::committed_test))]
+#[tactic(auto, unfolding(crate::specs::Tests::committed_test))]
 fn committed_ok(u: &Slot) -> bool
     ensures committed { result ≡ committed_test u.now }
 {
     if layout::AFTER_TAGS <= u[layout::PLACE] {
         return false;
     }
-    if !all_zero(u, layout::PART, layout::VALUE) {
+    if !all_zero(&u[layout::PART..layout::VALUE]) {
         return false;
     }
-    let v = ValueWithLayout::read(u, layout::VALUE);
+    let v = layout::value_in(u);
     if !v.ok() {
         return false;
     }

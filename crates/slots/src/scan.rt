@@ -13,7 +13,7 @@ pub fn rest_zero(u: &Slot, j: usize) -> bool
     requires within { j ≤ slot_width }
     ensures zero { result ≡ all_zero (drop j u.now) }
 {
-    all_zero(u, j, SLOT_WIDTH)
+    all_zero(&u[j..])
 }
 
 // Whether the slots from n on are zero.
@@ -22,5 +22,5 @@ pub fn zero_from(s: &[u32], n: usize) -> bool
     requires inside { n ≤ units_in (length s.now) }
     ensures zero { result ≡ is_zero_from n s.now }
 {
-    all_zero(s, SLOT_WIDTH * n, SLOT_WIDTH * units(s))
+    all_zero(&s[SLOT_WIDTH * n..SLOT_WIDTH * units(s)])
 }

@@ -8,7 +8,7 @@ use Prim.Native.Nat.{ℕ, suc, ◌+◌, ◌-◌, ◌*◌, ◌≤◌, ◌<◌}
 use native.Mathlib.Omega.{arith}
 use lib.Dec.{eqb}
 use lib.ListN.{length, get_or, take, drop, set, replicate, length-append, length-drop, take-append-drop}
-use lib.Seq.{take-add, take-take, drop-drop, drop-append-le, drop_at, set_at, get_or_at, length-take-le}
+use lib.Seq.{sets, sets-eq, take-add, take-take, drop-drop, drop-append-le, drop_at, set_at, get_or_at, length-take-le}
 use borrow.Author.Tests.{ltb-true, ne_eqb, eq-eqb}
 use Rattle.lists.specs.Lists.{every, keep}
 use Rattle.lists.proofs.Bools.{and_left, and_right}
@@ -20,7 +20,7 @@ use Rattle.types.specs.declared.index.ShiftedTxnIndex.{ShiftedTxnIndex}
 use Rattle.types.specs.ValueWithLayout.{value_from as struct_of, words_of}
 use Rattle.types.specs.declared.value.ValueWithLayout.{ValueWithLayout}
 use Rattle.types.proofs.ValueLaws.{words_read}
-use Rattle.number.specs.Words.{AreWords}
+use Rattle.number.specs.Words.{AreWords, digits}
 use Rattle.request.specs.Set.{Member}
 use Rattle.slots.specs.Slots.{Slot, slot_width, slot_at, encode, is_whole, written, padded}
 use Rattle.types.specs.Units.{units_in}
@@ -391,10 +391,17 @@ pub read_exchanged : (s : List ℕ) (i : ℕ) (x : ValueWithLayout) (b : Bool) �
     b ≡ is_exchanged (value_at (slot_width * i + 7) s)
 read_exchanged s i x b w h e f = f ∙ ap is_exchanged (ap words_of e ∙ words_read s (slot_width * i + 7) w (omega (arith, slot_inside i (length s) h)))
 
-pub value_copied : (i at : ℕ) (t s after : List ℕ) → i < units_in (length s) → after ≡ take (slot_width * i + 7) s ++ (take value_width (drop at t) ++ drop (slot_width * i + 7 + 7) s) →
-    after ≡ written i (with_value (value_at at t) (slot_at i s)) s
-unfolding value_at
-value_copied i at t s after h e = e ∙ value_written i (take value_width (drop at t)) s (slot_inside i (length s) h)
+pub words_wide : (v : ValueWithLayout) → length (words_of v) ≡ value_width
+unfolding words_of digits
+words_wide v = refl
+
+sets_seven : (s : List ℕ) (i : ℕ) (ws : List ℕ) → length ws ≡ 7 → i + 7 ≤ length s → sets s i ws ≡ take i s ++ (ws ++ drop (i + 7) s)
+sets_seven s i ws n h = sets-eq ws s i (omega arith) ∙ rw n (append_assoc (take i s) ws (drop (i + 7) s))
+
+pub value_put : (i : ℕ) (v : ValueWithLayout) (s after : List ℕ) → i < units_in (length s) → after ≡ sets s (slot_width * i + 7) (words_of v) → after ≡ written i (with_value (words_of v) (slot_at i s)) s
+value_put i v s after h e =
+    let l : slot_width * i + slot_width ≤ length s = slot_inside i (length s) h in
+    e ∙ sets_seven s (slot_width * i + 7) (words_of v) (words_wide v) (omega arith) ∙ value_written i (words_of v) s l
 
 pub inside_as : (i a b : ℕ) → a ≡ b → i < units_in b → i < units_in a
 inside_as i a b e h = rw e h

@@ -10,8 +10,7 @@ use lib.ListN.{length}
 use Rattle.lists.proofs.Bools.{and_both}
 use Rattle.types.specs.Refusal.{base_differs, commit_rule}
 use Rattle.types.specs.Units.{lack_of, units_in}
-use Rattle.request.specs.Set.{Member, tags_of}
-use Rattle.request.specs.declared.set.Set.{Set}
+use Rattle.request.specs.Set.{Member}
 use Rattle.model.specs.Rows.{find, put, edited}
 use Rattle.model.specs.Rows as Rows
 use Rattle.model.specs.Data.{Ruling, refuse, accept, done_answer}
@@ -23,11 +22,10 @@ use Rattle.group_slots.specs.Layout.{Groups, groups_in, holding, group_valid, fi
 use Rattle.group_slots.specs.Found.{slots_taken, run_of}
 use Rattle.group_slots.specs.declared.find.Run.{Run}
 use Rattle.versioned_group_data.specs.Ruled.{Ruled, committing, with_group_commits, editing, result_of, words_after}
-use Rattle.versioned_group_data.specs.Members.{done_update, members_at, recording}
+use Rattle.versioned_group_data.specs.Members.{done_update, recording}
 use Rattle.versioned_group_data.specs.Tried.{lack_beside, Tried}
 use Rattle.group_slots.proofs.GroupHolding.{updates_valid, committed_valid, rising_valid, groups_holding, valid_holding, length_holding, holding_again}
 use Rattle.group_slots.proofs.GroupSplits.{held_put}
-use Rattle.versioned_group_data.proofs.MembersHanded.{length_members_at}
 use Rattle.versioned_group_data.proofs.CommitTried.{tried_none, none_done, tried_lack, tried_held, tried_left}
 use Rattle.versioned_group_data.proofs.GroupRulings.{lack_in_few, fits_few, ruled_refused, ruled_full, ruled_done, ruled_kept}
 
@@ -39,9 +37,6 @@ accepted_done s ruling answer g e h n after u =
     let result : result_of s ruling ≡ 0 = rw (e, lack_in_few s g h) in
     let words : words_after s ruling ≡ holding s g = rw (e, fits_few s g h) in
     (u.result ∙ result, u.words ∙ words)
-
-pub base_takes : (tags : Set) (at : ℕ) (t : List ℕ) (l : ℕ) → l ≡ length (tags_of tags.low tags.high) → 1 + l ≡ suc (length (members_at tags at t))
-base_takes tags at t l e = omega (arith, length_members_at tags at t, e)
 
 module _ (s : List ℕ) (v : group_valid s ≡ true) (key p : ℕ) (base : p ≡ 0) (run : Run) (found : run ≡ run_of key p (groups_in s)) (ms : List Member) where
   abbrev own : Option Update

@@ -35,7 +35,8 @@ use Rattle.model.proofs.SetLaws.{bits, tags_of_bits}
 use Rattle.group_slots.specs.Layout.{part_slot, member_slot, committed_slot, groups_in, group_valid}
 use Rattle.group_slots.specs.Found.{start_of, slots_taken}
 use Rattle.versioned_group_data.specs.Ruled.{answer_in}
-use Rattle.versioned_group_data.specs.Members.{members_at}
+use Rattle.request.specs.Members.{members_in}
+use Rattle.request.specs.declared.members.Members.{Members}
 use Rattle.versioned_group_data.specs.Collected.{is_from, tag_bits, slot_values, set_words}
 use Rattle.group_slots.proofs.SlotParts.{committed_value, update_values}
 use Rattle.group_slots.proofs.GatheredGroups.{part_value, committed_slot_value}
@@ -301,9 +302,10 @@ module _ (s : List ℕ) (v : group_valid s ≡ true) (key p : ℕ) (u : Update) 
     unfolding tags_in
     set_length = ap length set_back ∙ length-map u.members (λ m. m.tag) ∙ sym size
 
-    pub members_back : (rest values : List ℕ) → values ≡ slot_values (slots n (drop (slot_width * first) s)) ++ rest → members_at words 0 values ≡ u.members
-    unfolding members_at
-    members_back rest values f =
-        ap (λ (ts : List ℕ). members_of ts (drop 0 values)) set_back
+    pub members_back : (handed : Members) → handed.set ≡ words → (rest : List ℕ) → handed.values.now ≡ slot_values (slots n (drop (slot_width * first) s)) ++ rest → members_in handed ≡ u.members
+    unfolding members_in
+    members_back handed e rest f =
+        ap (λ (x : Set). members_of (tags_of x.low x.high) handed.values.now) e
+        ∙ ap (λ (ts : List ℕ). members_of ts handed.values.now) set_back
         ∙ ap (λ (l : List ℕ). members_of (tags_in u.members) l) (f ∙ ap (λ (us : List Slot). slot_values us ++ rest) members_run)
         ∙ values_back p (row_at key p u) u.members rest own_values

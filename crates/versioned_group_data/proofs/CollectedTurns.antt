@@ -9,8 +9,10 @@ use native.Mathlib.Decide.{dec_le}
 use native.Mathlib.Omega.{arith}
 use lib.ListN.{length, get_or, take, drop, length-append, length-drop, take-append-drop}
 use lib.Pow.{pow_mono}
-use lib.Seq.{take_at, drop-append-add, drop-drop, get_or-drop, length-take-le}
+use lib.Seq.{take_all, take_at, drop-append-add, drop-drop, get_or-drop, length-take-le}
 use borrow.Author.Tests.{leb-true}
+use borrow.Rule.Slice.PartMut.{put_mid}
+use Rattle.std.proofs.lemmas.Slice.{put_mid-paste}
 use Rattle.lists.specs.Lists.{every}
 use Rattle.lists.proofs.Lists.{every_at}
 use Rattle.types.specs.Value.{value_at, value_width}
@@ -27,7 +29,7 @@ module _ (s : List ℕ) (i n j less : ℕ) (inside : j < slot_width) where
   run_word : (k : ℕ) → k < n → get_or (get_or (slots n (drop (slot_width * i) s)) k []) j 0 ≡ get_or s (slot_width * (i + k) + j) 0
   run_word k h =
       let e : slot_width * i + (slot_width * k + j) ≡ slot_width * (i + k) + j = omega arith in
-      ap (λ (u : Slot). get_or u j 0) (slots_at n k (drop (slot_width * i) s) h)
+      ap (λ (u : Slot). get_or u j 0) (slots_at n k (drop (slot_width * i) s) [] h)
       ∙ slot_at_word k j (drop (slot_width * i) s) inside
       ∙ get_or-drop (slot_width * i) s (slot_width * k + j) 0
       ∙ ap (λ (m : ℕ). get_or s m 0) e
@@ -119,6 +121,17 @@ append_next d out p w a n e l =
     let f : take a out ≡ p = ap (take a) e ∙ take_at p (drop a d) a l in
     let g : drop (a + n) out ≡ drop (a + n) d = ap (λ (m : ℕ). drop (m + n) out) (sym l) ∙ ap (drop (length p + n)) e ∙ drop-append-add p (drop a d) n ∙ drop-drop n a d in
     rw (f, g)
+
+-- a value copied
+pub value_copied : (out z s : List ℕ) (to from : ℕ) → from + value_width ≤ length s → z ≡ take (from + value_width - from) (drop from s) →
+    put_mid to (to + value_width - to) out z ≡ take to out ++ (take value_width (drop from s) ++ drop (to + value_width) out)
+value_copied out z s to from h e =
+    let n : from + value_width - from ≡ value_width = omega arith in
+    let v : List ℕ = take value_width (drop from s) in
+    let f : z ≡ v = rw n at e in
+    let l : length v ≡ value_width = length-take-le value_width (drop from s) (omega (arith, length-drop from s)) in
+    put_mid-paste to (to + value_width - to) out z v value_width f (omega arith) (sym l)
+    ∙ rw (take_all value_width v (omega arith)) (append_assoc (take to out) v (drop (to + value_width) out))
 
 module _ (s : List ℕ) (i : ℕ) (d : List ℕ) (at : ℕ) where
   -- what is in place after k slots

@@ -19,11 +19,9 @@ use Rattle.types.specs.Value.{is_creation, is_deletion}
 use Rattle.types.specs.Response.{most_tags}
 use Rattle.types.specs.ValueWithLayout.{words_of}
 use Rattle.types.specs.declared.value.ValueWithLayout.{ValueWithLayout}
-use Rattle.request.specs.Set.{Member, tags_of}
-use Rattle.request.specs.declared.set.Set.{Set}
+use Rattle.request.specs.Set.{Member}
 use Rattle.slots.specs.Slots.{padded}
 use Rattle.types.specs.Units.{units_in}
-use Rattle.std.proofs.Common.{Result}
 use Rattle.std.proofs.Common.{Result, Ok, Err}
 use Rattle.model.specs.Rows.{find, put, erase, row_at}
 use Rattle.model.specs.Group.{Committed, is_some}
@@ -31,15 +29,15 @@ use Rattle.model.specs.Fine.{is_word, rising_from, fine_member, fine_members, fi
 use Rattle.model.proofs.FineCommitted.{erase_committed_lem}
 use Rattle.group_slots.specs.Layout.{Groups, committed_slot, groups_in, holding, fine_groups, group_valid, held_by, lack_in, fits_in, with_group}
 use Rattle.group_slots.specs.Found.{committed_found}
-use Rattle.versioned_group_data.specs.Members.{members_at}
 use Rattle.versioned_group_data.specs.Commit.{passes, commit_to, creations, deletions}
 use Rattle.versioned_group_data.specs.Growth.{grown, growth_of}
 use Rattle.versioned_group_data.specs.declared.commit.Growth.{Growth}
+use Rattle.types.specs.declared.refusal.Refusal.{Refusal}
+use Rattle.types.specs.declared.refusal.Refusal.TheVariants.{CommitRule}
 use Rattle.versioned_group_data.proofs.CommitOrder.{put_length_le, rising_least, rising_tag, rising_rest, commit_to_rising, commit_to_fine}
 use Rattle.group_slots.proofs.GroupHolding.{groups_holding, length_holding, holding_again, valid_holding, holding_groups, updates_valid, committed_valid, committed_rising_valid, few_valid}
 use Rattle.group_slots.proofs.GroupSplits.{held_erase_none, held_erase_some}
 use Rattle.versioned_group_data.proofs.GroupRulings.{fits_few, fits_held}
-use Rattle.versioned_group_data.proofs.MembersHanded.{length_members_at}
 use Rattle.group_slots.proofs.GroupStanding.{committed_at, committed_none}
 
 -- ---- the commit rule
@@ -75,18 +73,26 @@ pub one_fits : (b : Bool) → bool_byte b ≤ 1
 one_fits true = omega arith
 one_fits false = omega arith
 
-pub with_grown : (p : Bool) (v : List ℕ) (g : Growth) (c d : Bool) → c ≡ is_creation v → d ≡ is_deletion v →
-    ◌≡◌ {A = Growth} (record { passes = p && g.passes; creations = g.creations + bool_byte c; deletions = g.deletions + bool_byte d }) (grown p v g)
+pub with_grown : (v : List ℕ) (g : Growth) (c d : Bool) → c ≡ is_creation v → d ≡ is_deletion v →
+    ◌≡◌ {A = Growth} (record { creations = g.creations + bool_byte c; deletions = g.deletions + bool_byte d }) (grown v g)
 unfolding grown
-with_grown p v g c d e f =
+with_grown v g c d e f =
     λ i. record {
-      passes = p && g.passes;
       creations = (one_more g.creations c ∙ ap (λ (b : Bool). cond b (suc g.creations) g.creations) e) i;
       deletions = (one_more g.deletions d ∙ ap (λ (b : Bool). cond b (suc g.deletions) g.deletions) f) i;
     }
 
+-- what a growth, or none, tells
+growth_ok : (b : Bool) (x y : Growth) → cond b (Ok x) (Err CommitRule) ≡ Ok y → (b ≡ true) × (x ≡ y)
+growth_ok true x y e = (refl, cc)
+growth_ok false x y e = absurd (let z : ◌≡◌ {A = ℕ} 0 1 = cc in omega arith)
+
+growth_err : (b : Bool) (x : Growth) (n : Refusal) → cond b (Ok x) (Err CommitRule) ≡ Err n → (b ≡ false) × (n ≡ CommitRule)
+growth_err true x n e = absurd (let z : ◌≡◌ {A = ℕ} 0 1 = cc in omega arith)
+growth_err false x n e = (refl, cc)
+
 module _ (key : ℕ) (g : Committed) where
-  pub growth_none : (ms : List Member) → ms ≡ [] → ◌≡◌ {A = Growth} (record { passes = true; creations = 0; deletions = 0 }) (growth_of key g ms)
+  pub growth_none : (ms : List Member) → ms ≡ [] → ◌≡◌ {A = Result Growth Refusal} (Ok (record { creations = 0; deletions = 0 })) (growth_of key g ms)
   unfolding growth_of creations deletions every
   growth_none ms e = rw e
 
@@ -100,17 +106,39 @@ module _ (key : ℕ) (g : Committed) where
       go true n h = omega arith
       go false n h = omega arith
 
-  pub growth_few : (set : Set) (at : ℕ) (t : List ℕ) → length (tags_of set.low set.high) < most_tags → (rest : Growth) → rest ≡ growth_of key g (members_at set at t) →
-      (rest.creations < most_tags) × (rest.deletions < most_tags)
-  unfolding growth_of
-  growth_few set at t h rest e =
-      let ms : List Member = members_at set at t in
-      let n : length ms < most_tags = omega (arith, length_members_at set at t) in
-      (omega (arith, (few ms).0, ap (λ (x : Growth). x.creations) e), omega (arith, (few ms).1, ap (λ (x : Growth). x.deletions) e))
+  module _ (ms : List Member) (r : Result Growth Refusal) (e : r ≡ growth_of key g ms) where
+    pub growth_passes : (x : Growth) → r ≡ Ok x → (every (passes key g) ms ≡ true) × (x.creations ≡ creations ms) × (x.deletions ≡ deletions ms)
+    unfolding growth_of
+    growth_passes x h =
+        let f = growth_ok (every (passes key g) ms) (record { creations = creations ms; deletions = deletions ms }) x (sym e ∙ h) in
+        (f.0, ap (λ (y : Growth). y.creations) (sym f.1), ap (λ (y : Growth). y.deletions) (sym f.1))
 
-  pub growth_more : (m : Member) (ms all : List Member) → all ≡ m ∷ ms → (rest : Growth) → rest ≡ growth_of key g ms → (p : Bool) → p ≡ passes key g m → (r : Growth) → r ≡ grown p m.value rest → r ≡ growth_of key g all
-  unfolding growth_of grown creations deletions every
-  growth_more m ms all e rest f p h r k = k ∙ rw (f, h, e)
+    pub growth_stops : (n : Refusal) → r ≡ Err n → (every (passes key g) ms ≡ false) × (n ≡ CommitRule)
+    unfolding growth_of
+    growth_stops n h = growth_err (every (passes key g) ms) (record { creations = creations ms; deletions = deletions ms }) n (sym e ∙ h)
+
+    pub growth_few : length ms < most_tags → (x : Growth) → r ≡ Ok x → (x.creations < most_tags) × (x.deletions < most_tags)
+    growth_few l x h =
+        let f = growth_passes x h in
+        (omega (arith, (few ms).0, f.1), omega (arith, (few ms).1, f.2))
+
+  module _ (m : Member) (ms all : List Member) (is : all ≡ m ∷ ms) (p : Bool) (told : p ≡ passes key g m) where
+    pub growth_stop : p ≡ false → Err CommitRule ≡ growth_of key g all
+    unfolding growth_of every
+    growth_stop h = rw (is, ← told, h)
+
+    module _ (h : p ≡ true) (r : Result Growth Refusal) (e : r ≡ growth_of key g ms) where
+      pub growth_refused : (n : Refusal) → r ≡ Err n → Err n ≡ growth_of key g all
+      unfolding growth_of every
+      growth_refused n f =
+          let q = growth_stops ms r e n f in
+          rw (is, ← told, h, q.0, q.1)
+
+      pub growth_more : (x : Growth) → r ≡ Ok x → (w : Growth) → w ≡ grown m.value x → Ok w ≡ growth_of key g all
+      unfolding growth_of grown creations deletions every
+      growth_more x f w k =
+          let q = growth_passes ms r e x f in
+          rw (k, is, ← told, h, q.0, q.1, q.2)
 
 -- ---- the slot of a committed value
 

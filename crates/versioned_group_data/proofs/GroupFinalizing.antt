@@ -1,12 +1,15 @@
 -- A group finalised: what its update commits, and the group that is answered.
 -- Assumes nothing.
 use mathlib.Core.Path.{◌≡◌, refl, sym, ◌∙◌, ap}
-use mathlib.Core.Bool.{true}
-use mathlib.Core.List.{List}
+use mathlib.Core.Bool.{true, cond}
+use mathlib.Core.List.{List, []}
 use mathlib.Core.Option.{Option, none, some}
 use Prim.Native.Nat.{ℕ, suc, ◌+◌, ◌-◌, ◌≤◌}
 use native.Mathlib.Nat.{add-zero}
 use native.Mathlib.Omega.{arith}
+use native.Mathlib.Decide.{ℕ_discrete}
+use lib.Dec.{eqb}
+use borrow.Author.Tests.{ne_eqb}
 use lib.ListN.{length}
 use Rattle.lists.proofs.Bools.{and_both}
 use Rattle.types.specs.Refusal.{nothing_there, commit_rule}
@@ -22,13 +25,14 @@ use Rattle.model.specs.Group.{Update, Committed, commits, commit, finalized_to, 
 use Rattle.model.specs.Model.{ruled}
 use Rattle.model.specs.Fine.{is_word, fine_members, fine_group, fine_updates}
 use Rattle.model.proofs.FineCommitted.{fine_option, commit_fine}
-use Rattle.group_slots.specs.Layout.{Groups, groups_in, holding, group_valid, fine_groups, held_by, lack_in, with_group}
+use Rattle.group_slots.specs.Layout.{Groups, groups_in, holding, group_valid, fine_groups, held_by, lack_in, fits_in, with_group}
 use Rattle.group_slots.specs.Found.{start_of, slots_taken, run_of}
 use Rattle.group_slots.specs.declared.find.Run.{Run}
-use Rattle.versioned_group_data.specs.Ruled.{Answered, committing, with_group_commits, answer_in}
-use Rattle.versioned_group_data.specs.Tried.{lack_beside, Tried}
+use Rattle.versioned_group_data.specs.Ruled.{Ruled, Answered, committing, with_group_commits, result_of, words_after, answer_in, answer_after}
+use Rattle.versioned_group_data.specs.Tried.{lack_beside, tried_result, tried_words, Tried}
 use Rattle.group_slots.proofs.GroupHolding.{updates_valid, committed_valid, groups_holding, valid_holding}
 use Rattle.group_slots.proofs.SlotRuns.{run_inside}
+use Rattle.versioned_group_data.proofs.CollectedGroups.{members_fine}
 use Rattle.versioned_group_data.proofs.GroupRulings.{answered_refused, answered_full, answered_done}
 use Rattle.versioned_group_data.proofs.CommitTried.{tried_none, none_done, tried_lack, tried_held, tried_left}
 
@@ -155,3 +159,80 @@ module _ (s : List ℕ) (v : group_valid s ≡ true) (key index : ℕ) (place : 
       go (some u) e =
           let l : run.len ≡ suc (length u.members) = len_is ∙ rw e in
           record { update = u; found = e; start = ap (λ (n : ℕ). n + 1) at_is; size = omega arith }
+
+-- ---- what is promised of the commit alone
+
+none_taken : (o : Option Update) → o ≡ none → slots_taken o ≡ 0
+unfolding slots_taken
+none_taken o e = rw e
+
+-- a refusal leaves the answer
+answer_left : (s out : List ℕ) (x : Ruling Groups) (r : ℕ) → r ≡ result_of s x → (r ≡ 0 → ⊥) → out ≡ answer_after s x out
+unfolding result_of answer_after fits_in
+answer_left s out (refuse n) r e ne = refl
+answer_left s out (accept answer g) r e ne = rw (ne_eqb (lack_in s g) 0 (λ z. ne (e ∙ z)))
+
+pub answered_none : (s out : List ℕ) (ruling : Ruling Groups) (r : ℕ) (after : List ℕ) → Ruled s ruling r after → (r ≡ 0 → ⊥) → Answered s out ruling r after out
+answered_none s out ruling r after ru ne = record { result = ru.result; words = ru.words; answer = answer_left s out ruling r ru.result ne }
+
+module _ (s : List ℕ) (v : group_valid s ≡ true) (key p : ℕ) (k : is_word key ≡ true) where
+  abbrev ruling : Ruling Groups
+  ruling = committing (groups_in s) key p (finalize_group key)
+
+  pub ruled_absent : slots_taken (find key p (groups_in s).updates) ≡ 0 → Ruled s ruling nothing_there s
+  ruled_absent e = let a = finalize_absent s [] key p e in record { result = a.result; words = a.words }
+
+  module _ (u : Update) (e : find key p (groups_in s).updates ≡ some u) (r : ℕ) (after : List ℕ) where
+    fine : fine_members 0 u.members ≡ true
+    fine = members_fine s v key p u e (start_of key p (groups_in s) + 1) (length u.members) refl refl
+
+    abbrev tries : Option Committed
+    tries = commit key u.members (groups_in s).committed
+
+    ruling_is : ruling ≡ ruled (with_group_commits (groups_in s) key p) (finalized_to key tries)
+    unfolding committing finalize_group
+    ruling_is = rw e
+
+    pub ruled_tried : Tried 0 s tries r after → Ruled s ruling r after
+    ruled_tried t = go (ℕ_discrete r 0)
+      where
+        go : Dec (r ≡ 0) → Ruled s ruling r after
+        go (yes z) =
+            let a = finalize_done s v key p k u e fine r after t [] (answer_in (committed_answer key (groups_in after).committed) []) z refl in
+            record { result = z ∙ a.result; words = a.words }
+        go (no z) =
+            let a = (finalize_refused s v key p k u e fine r after t [] z).1 in
+            record { result = a.result; words = a.words }
+
+    tried_ruled : Ruled s ruling r after → Tried 0 s tries r after
+    unfolding result_of words_after tried_result tried_words fits_in
+    tried_ruled ru = go tries refl
+      where
+        go : (o : Option Committed) → tries ≡ o → Tried 0 s tries r after
+        go none h =
+            let is : ruling ≡ refuse commit_rule = ruling_is ∙ final_none key p s tries h in
+            record { result = rw h (ru.result ∙ ap (result_of s) is); words = rw h (ru.words ∙ ap (words_after s) is) }
+        go (some c) h =
+            let is : ruling ≡ accept (committed_answer key c) (with_group (groups_in s) c) = ruling_is ∙ final_some key p s c tries h in
+            record {
+              result = rw h (ru.result ∙ ap (result_of s) is ∙ sym (lack_beside_lem s c));
+              words = rw h (ru.words ∙ ap (words_after s) is ∙ ap (λ (n : ℕ). cond (eqb n 0) (holding s (with_group (groups_in s) c)) s) (sym (lack_beside_lem s c)));
+            }
+
+  -- what was committed is answered
+  module _ (r : ℕ) (after : List ℕ) (ru : Ruled s ruling r after) (z : r ≡ 0) where
+    there : {A : Type 0} → ((u : Update) → find key p (groups_in s).updates ≡ some u → A) → A
+    there {A} f = go (find key p (groups_in s).updates) refl
+      where
+        go : (o : Option Update) → find key p (groups_in s).updates ≡ o → A
+        go none e =
+            let l : slots_taken (find key p (groups_in s).updates) ≡ 0 = none_taken (find key p (groups_in s).updates) e in
+            let w : ◌≡◌ {A = ℕ} 0 nothing_there = sym z ∙ ru.result ∙ sym (ruled_absent l).result in
+            absurd (omega arith)
+        go (some u) e = f u e
+
+    pub finalized_valid : group_valid after ≡ true
+    finalized_valid = there (λ u e. after_valid s v key p k u e (fine u e r after) r after (tried_ruled u e r after ru) z)
+
+    pub finalized_answered : (out outAfter : List ℕ) → outAfter ≡ answer_in (committed_answer key (groups_in after).committed) out → Answered s out ruling 0 after outAfter
+    finalized_answered out outAfter a = there (λ u e. finalize_done s v key p k u e (fine u e r after) r after (tried_ruled u e r after ru) out outAfter z a)

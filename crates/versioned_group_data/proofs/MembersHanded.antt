@@ -1,51 +1,42 @@
--- The members that a set and words hand over, from the first on.
+-- The members that a request hands over: how many, and how wide their values.
 -- Assumes nothing.
-use mathlib.Core.Path.{◌≡◌, refl, sym, ◌∙◌, ap}
+use mathlib.Core.Path.{◌≡◌, refl, ap}
+use mathlib.Core.Bool.{Bool, true}
 use mathlib.Core.List.{List, [], ◌∷◌}
-use Prim.Native.Nat.{ℕ, suc, ◌+◌, ◌*◌, ◌≤◌, ◌<◌}
+use Prim.Native.Nat.{ℕ, ◌*◌, ◌≤◌, ◌<◌}
 use native.Mathlib.Omega.{arith}
-use lib.ListN.{length, drop}
-use lib.Seq.{drop-drop}
-use Rattle.number.specs.Words.{AreWords}
-use Rattle.types.specs.Value.{value_width, value_at}
+use lib.Dec.{eqb}
+use lib.ListN.{length, take, drop, length-drop}
+use lib.Seq.{length-take-le}
+use borrow.Author.Tests.{eq-eqb}
+use Rattle.lists.specs.Lists.{every}
+use Rattle.lists.proofs.Bools.{and_both}
+use Rattle.types.specs.Value.{value_width}
 use Rattle.types.specs.Response.{most_tags}
-use Rattle.types.specs.ValueWithLayout.{value_from, words_of}
-use Rattle.types.specs.declared.value.ValueWithLayout.{ValueWithLayout}
-use Rattle.types.proofs.ValueLaws.{read_words}
-use Rattle.request.specs.Set.{tags_of, members_of}
-use Rattle.request.specs.declared.set.Set.{Set}
+use Rattle.request.specs.Set.{Member, tags_of, members_of}
+use Rattle.request.specs.Members.{members_in}
+use Rattle.request.specs.declared.members.Members.{Members}
 use Rattle.request.proofs.SetTags.{tags_length_le}
-use Rattle.versioned_group_data.specs.Members.{members_at}
+use Rattle.request.proofs.MemberViews.{members_length}
 
-length_members_of : (ts ws : List ℕ) → length (members_of ts ws) ≡ length ts
-unfolding members_of
-length_members_of [] ws = refl
-length_members_of (t ∷ ts) ws = ap suc (length_members_of ts (drop value_width ws))
+pub handed_few : (m : Members) → length (members_in m) ≤ most_tags
+handed_few m = omega (arith, members_length m, tags_length_le m.set.low m.set.high)
 
-pub length_members_at : (set : Set) (at : ℕ) (t : List ℕ) → length (members_at set at t) ≡ length (tags_of set.low set.high)
-unfolding members_at
-length_members_at set at t = length_members_of (tags_of set.low set.high) (drop at t)
+-- one member is taken off
+pub handed_rest : (m : Member) (ms : List Member) (x : Members) → members_in x ≡ m ∷ ms → length ms < most_tags
+handed_rest m ms x e = omega (arith, handed_few x, ap length e)
 
-pub handed_none : (set : Set) → tags_of set.low set.high ≡ [] → (at : ℕ) (t : List ℕ) → members_at set at t ≡ []
-unfolding members_at members_of
-handed_none set e at t = rw e
+unfoldable pub is_wide : Member → Bool
+is_wide m = eqb (length m.value) value_width
 
-module _ (set : Set) (tag : ℕ) (rest : Set) (split : tags_of set.low set.high ≡ tag ∷ tags_of rest.low rest.high) where
-  pub handed_length : length (tags_of set.low set.high) ≡ suc (length (tags_of rest.low rest.high))
-  handed_length = ap length split
+wide_of : (ts ws : List ℕ) → value_width * length ts ≤ length ws → every is_wide (members_of ts ws) ≡ true
+unfolding every members_of is_wide
+wide_of [] ws h = refl
+wide_of (t ∷ ts) ws h =
+    and_both (eqb (length (take value_width ws)) value_width) (every is_wide (members_of ts (drop value_width ws)))
+    (eq-eqb (length (take value_width ws)) value_width (length-take-le value_width ws (omega arith)))
+    (wide_of ts (drop value_width ws) (rw (length-drop value_width ws) (omega arith)))
 
-  pub handed_few : length (tags_of rest.low rest.high) < most_tags
-  handed_few = omega (arith, handed_length, tags_length_le set.low set.high)
-
-  module _ (at : ℕ) (t : List ℕ) where
-    handed_at : members_at set at t ≡ record { tag = tag; value = value_at at t } ∷ members_at rest (at + value_width) t
-    unfolding members_at members_of value_at
-    handed_at = rw (split, drop-drop value_width at t)
-
-    -- and the value as the code has read it
-    pub handed_first : AreWords t → at + value_width * length (tags_of set.low set.high) ≤ length t → (v : ValueWithLayout) → v ≡ value_from (value_at at t) →
-        members_at set at t ≡ record { tag = tag; value = words_of v } ∷ members_at rest (at + value_width) t
-    handed_first w i v e =
-        handed_at
-        ∙ ap (λ (l : List ℕ). record { tag = tag; value = l } ∷ members_at rest (at + value_width) t)
-        (sym (read_words t at v w (omega (arith, handed_length)) e))
+pub handed_wide : (m : Members) → every is_wide (members_in m) ≡ true
+unfolding members_in
+handed_wide m = wide_of (tags_of m.set.low m.set.high) m.values.now m.inside

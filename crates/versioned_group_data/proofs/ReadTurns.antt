@@ -24,16 +24,15 @@ use Rattle.std.proofs.Common.{Some, None}
 use Rattle.std.proofs.Common.{Option as Maybe}
 use Rattle.std.specs.Result.{result_unwrap_or}
 use Rattle.types.specs.declared.output.MVGroupOutput.{MVGroupOutput}
-use Rattle.types.specs.declared.output.MVGroupOutput.TheVariants.{Versioned, Size, Uninitialized, TagNotFound, Dependency}
+use Rattle.types.specs.declared.output.MVGroupOutput.TheVariants.{Size, Uninitialized, TagNotFound, Dependency}
 use Rattle.number.specs.Words.{AreWords}
 use Rattle.types.proofs.ValueLaws.{read_words}
 use Rattle.types.proofs.AnswersTold.{length_told, no_bytes_told}
-use Rattle.slots.specs.Slots.{Slot, slot_width, slot_at, held}
+use Rattle.slots.specs.Slots.{Slot, slot_width, slots, slot_at, held}
 use Rattle.types.specs.Units.{units_in}
 use Rattle.slots.proofs.StoreEncoding.{held_fits, held_slots}
-use Rattle.slots.proofs.StoreWords.{slots_at, slot_at_word, slot_inside}
+use Rattle.slots.proofs.StoreWords.{slots_at, slots_many, slots_are, slot_at_word, slot_inside}
 use Rattle.model.proofs.FineParts.{value_bytes}
-use Rattle.group_slots.proofs.GroupStanding.{slot_at_value}
 use Rattle.versioned_group_data.specs.Output.{found_output, latest_output, size_output}
 use Rattle.versioned_group_data.specs.Sizes.{Item, fine_item, first_of, latest_in, latest_of, Tally, start, waiting, counting, tallied, tally, size_of, Bounded}
 use Rattle.versioned_group_data.specs.Down.{is_update_of, is_tagged, item_in, slots_down, items_at}
@@ -47,9 +46,6 @@ pub waits_from : (w : ℕ) → result_unwrap_or (index_of w) 0 ≡ w - 1
 unfolding index_of
 waits_from zero = refl
 waits_from (suc index) = omega arith
-
-pub with_base_false : (based : Bool) (place : ℕ) → based ≡ false → eqb place 0 ≡ (based || eqb place 0)
-with_base_false based place e = rw e
 
 -- ---- one slot
 
@@ -111,7 +107,7 @@ module _ (s : List ℕ) (key j : ℕ) (p : 0 < j) (r : Readable key j (held s)) 
   here_inside = omega (arith, r.inside)
 
   here : get_or (held s) (j - 1) [] ≡ slot_at (j - 1) s
-  here = ap (λ (l : List Slot). get_or l (j - 1) []) (held_slots s) ∙ slots_at (length (held s)) (j - 1) s here_inside
+  here = ap (λ (l : List Slot). get_or l (j - 1) []) (held_slots s) ∙ slots_at (length (held s)) (j - 1) s [] here_inside
 
   is_update_lem : eqb (get_or (slot_at (j - 1) s) 0 0) 1 ≡ true
   unfolding is_update
@@ -221,7 +217,7 @@ module _ (s : List ℕ) (key tag i j : ℕ) (based : Bool) (b : meets_base key i
       part_is : get_or (slot_at (j - 1) s) 3 0 ≡ part
       part_is = here_word s key j p r 3 (omega arith) ∙ sym q
 
-      pub fetch_found : part ≡ tag + 1 → (o : MVGroupOutput) → o ≡ found_output (latest_in (item_in (slot_at (j - 1) s))) →
+      pub fetch_found : part ≡ suc tag → (o : MVGroupOutput) → o ≡ found_output (latest_in (item_in (slot_at (j - 1) s))) →
           o ≡ latest_output (meets_base key i (held s)) (latest_of (first_of tag (items_at key i (held s))))
       fetch_found t o e =
           let n : get_or (slot_at (j - 1) s) 3 0 ≡ suc tag = omega (arith, part_is) in
@@ -230,55 +226,30 @@ module _ (s : List ℕ) (key tag i j : ℕ) (based : Bool) (b : meets_base key i
           in
           e ∙ output_found (meets_base key i (held s)) (item_in (slot_at (j - 1) s)) ∙ ap (λ (y : Option Item). latest_output (meets_base key i (held s)) (latest_of y)) (sym f)
 
-      pub fetch_on : (part ≡ tag + 1 → ⊥) → first_of tag (items_at key i (held s)) ≡ first_of tag (items_at key (j - 1) (held s))
+      pub fetch_on : (part ≡ suc tag → ⊥) → first_of tag (items_at key i (held s)) ≡ first_of tag (items_at key (j - 1) (held s))
       fetch_on ne =
           x ∙ ap (first_of tag) (items_on s key j p r w k same)
           ∙ first_of_miss (slot_at (j - 1) s) tag (items_at key (j - 1) (held s)) (λ e. ne (omega (arith, part_is)))
 
--- ---- the item of a slot, from its words
+-- ---- a value that was read
 
-module _ (s : List ℕ) (j : ℕ) (flag : ℕ) (m : flag ≡ get_or s (slot_width * j + 5) 0) where
-  place_is : (place : ℕ) → place ≡ get_or s (slot_width * j + 2) 0 → (item_in (slot_at j s)).place ≡ place
-  unfolding item_in
-  place_is place q = slot_at_word j 2 s (omega arith) ∙ sym q
-
-  estimate_is : (item_in (slot_at j s)).estimate ≡ eqb flag 1
-  unfolding item_in
-  estimate_is = rw (slot_at_word j 5 s (omega arith), ← m)
-
-  value_is : (item_in (slot_at j s)).value ≡ value_at (slot_width * j + 7) s
-  unfolding item_in
-  value_is = slot_at_value j s
-
-  incarnation_is : (item_in (slot_at j s)).incarnation ≡ get_or s (slot_width * j + 6) 0
-  unfolding item_in
-  incarnation_is = slot_at_word j 6 s (omega arith)
-
-  module _ (place : ℕ) (q : place ≡ get_or s (slot_width * j + 2) 0) where
-    module _ (shifted : ShiftedTxnIndex) (t : shifted ≡ shifted_of place) where
-      pub output_estimate : flag ≡ 1 → (o : MVGroupOutput) → o ≡ Dependency (word_of shifted - 1) → o ≡ found_output (latest_in (item_in (slot_at j s)))
-      output_estimate f o e = e ∙ rw (estimate_is, eq-eqb flag 1 f, place_is place q, t)
-
-      pub output_value : (flag ≡ 1 → ⊥) → (incarnation : ℕ) → incarnation ≡ get_or s (slot_width * j + 6) 0 → (v : ValueWithLayout) →
-          v ≡ value_from (value_at (slot_width * j + 7) s) → Versioned shifted incarnation v ≡ found_output (latest_in (item_in (slot_at j s)))
-      output_value f incarnation n v w = rw (estimate_is, ne_eqb flag 1 f, place_is place q, incarnation_is, value_is, t, n, w)
-
-    pub tallied_waiting : (a after : Counts) (tag : ℕ) → tag ≡ (item_in (slot_at j s)).tag → flag ≡ 1 → tally_of after ≡ waiting tag place (tally_of a) →
-        tally_of after ≡ tallied (item_in (slot_at j s)) (tally_of a)
-    unfolding tallied
-    tallied_waiting a after tag t f e = e ∙ rw (estimate_is, eq-eqb flag 1 f, place_is place q, ← t)
-
-  pub tallied_counting : (a after : Counts) → (flag ≡ 1 → ⊥) → (v : List ℕ) → v ≡ value_at (slot_width * j + 7) s →
-      tally_of after ≡ counting (bytes_len v) (tally_of a) → tally_of after ≡ tallied (item_in (slot_at j s)) (tally_of a)
-  unfolding tallied
-  tallied_counting a after f v w e = e ∙ rw (estimate_is, ne_eqb flag 1 f, value_is, w)
-
-slot_bytes : (s : List ℕ) (j : ℕ) → fine_item (item_in (slot_at j s)) ≡ true → byte_length (value_at (slot_width * j + 7) s) ≤ 1048576
+pub slot_bytes : (u : Slot) (v : ValueWithLayout) → words_of v ≡ value_at 7 u → fine_item (item_in u) ≡ true → byte_length (words_of v) ≤ 1048576
 unfolding item_in
-slot_bytes s j f = rw (← slot_at_value j s) (bytes (item_in (slot_at j s)) f)
+slot_bytes u v e f = rw e (bytes (item_in u) f)
   where
     bytes : (x : Item) → fine_item x ≡ true → byte_length x.value ≤ 1048576
     bytes x h = value_bytes x.value (item_value x h)
+
+-- a word of a slot, as the walks read it
+module _ (s : List ℕ) (us : List Slot) (all : us ≡ slots (units_in (length s)) s) (j : ℕ) (h : j < units_in (length s)) where
+  pub here_read : j < length us
+  here_read = omega (arith, slots_many s us all)
+
+  pub slot_read : get_or us j [] ≡ slot_at j s
+  slot_read = slots_are s us all j [] here_read
+
+  pub word_read : (n : ℕ) → n < slot_width → get_or (get_or us j []) n 0 ≡ get_or s (slot_width * j + n) 0
+  word_read n l = ap (λ (u : Slot). get_or u n 0) slot_read ∙ slot_at_word j n s l
 
 pub value_inside : (j w : ℕ) → j < units_in w → slot_width * j + 7 + value_width ≤ w
 value_inside j w h = omega (arith, slot_inside j w h)
@@ -287,9 +258,6 @@ value_inside j w h = omega (arith, slot_inside j w h)
 module _ (s : List ℕ) (j : ℕ) (ws : AreWords s) (h : j < units_in (length s)) (v : ValueWithLayout) (e : v ≡ value_from (value_at (slot_width * j + 7) s)) where
   pub read_value : words_of v ≡ value_at (slot_width * j + 7) s
   read_value = read_words s (slot_width * j + 7) v ws (value_inside j (length s) h) e
-
-  pub read_bytes : fine_item (item_in (slot_at j s)) ≡ true → byte_length (words_of v) ≤ 1048576
-  read_bytes f = rw read_value (slot_bytes s j f)
 
 -- ---- counting
 
@@ -366,9 +334,6 @@ module _ (seen : List ℕ) (t : Tally) (x : Item) (xs : List Item) where
   tally_new : get_or seen x.tag 0 ≡ 0 → tally seen t (x ∷ xs) ≡ tally (set seen x.tag 1) (tallied x t) xs
   unfolding tally
   tally_new new = rw (eq-eqb (get_or seen x.tag 0) 0 new)
-
-pub slot_part : (s : List ℕ) (j part : ℕ) → part ≡ get_or s (slot_width * j + 3) 0 → part ≡ get_or (slot_at j s) 3 0
-slot_part s j part e = e ∙ sym (slot_at_word j 3 s (omega arith))
 
 module _ (u : Slot) (seen : List ℕ) (t : Tally) (b : Bounded seen t) where
   pub counted_head : (part : ℕ) → part ≡ get_or u 3 0 → part ≡ 0 → Counted u seen t seen t

@@ -1,32 +1,31 @@
 -- The slots of an update as the code builds them, one after the other.
 -- Assumes nothing.
-use mathlib.Core.Path.{◌≡◌, refl, sym, ◌∙◌, ap, ap₂}
+use mathlib.Core.Path.{◌≡◌, refl, sym, ◌∙◌, ap}
 use mathlib.Core.Bool.{true}
 use mathlib.Core.List.{List, [], ◌∷◌, ◌++◌, map, append_assoc, append-nil}
-use Prim.Native.Nat.{ℕ, suc, ◌+◌, ◌-◌, ◌*◌, ◌≤◌, ◌<◌}
+use Prim.Native.Nat.{ℕ, suc, ◌+◌, ◌≤◌}
 use native.Mathlib.Omega.{arith}
-use lib.ListN.{length, get_or, take, drop, replicate, length-append}
-use lib.Seq.{drop-drop}
+use lib.ListN.{length, replicate, length-append}
+use lib.Seq.{sets}
+use borrow.Author.Tests.{eqb-true}
 use Rattle.lists.specs.Lists.{every}
 use Rattle.lists.proofs.Bools.{and_both, and_left, and_right}
-use Rattle.types.specs.Response.{most_tags}
-use Rattle.types.specs.Value.{value_at, value_width}
-use Rattle.types.proofs.ValueLaws.{length_value_at}
-use Rattle.request.specs.Set.{tags_of, members_of}
-use Rattle.request.proofs.SetTags.{first_none}
-use Rattle.slots.specs.Slots.{Slot, slot_width, is_whole, padded, written}
+use Rattle.types.specs.Value.{value_width}
+use Rattle.types.specs.ValueWithLayout.{words_of}
+use Rattle.types.specs.declared.value.ValueWithLayout.{ValueWithLayout}
+use Rattle.number.specs.Words.{digits}
+use Rattle.request.specs.Set.{Member}
+use Rattle.slots.specs.Slots.{Slot, is_whole, padded, written}
 use Rattle.types.specs.Units.{units_in}
 use Rattle.slots.specs.Runs.{written_from}
 use Rattle.slots.proofs.SlotSplices.{written_from_none, written_one, written_next}
-use Rattle.model.specs.Rows.{row_at}
+use Rattle.model.specs.Rows.{Row, row_at}
+use Rattle.model.specs.Group.{Update}
 use Rattle.types.specs.Flag.{flag_of}
 use Rattle.group_slots.specs.Layout.{part_slot, member_slot, update_slots}
 use Rattle.versioned_group_data.specs.Members.{done_update}
 use Rattle.group_slots.proofs.SlotParts.{part_whole}
-
-drop_more : (from : ℕ) (t : List ℕ) → drop (from + value_width) t ≡ drop value_width (drop from t)
-drop_more from t =
-    sym (drop-drop value_width from t)
+use Rattle.versioned_group_data.proofs.MembersHanded.{is_wide}
 
 every_snoc : (us : List Slot) (u : Slot) → every is_whole us ≡ true → is_whole u ≡ true → every is_whole (us ++ (u ∷ [])) ≡ true
 unfolding every
@@ -40,109 +39,68 @@ pub part_built : (k w p i part : ℕ) → w ≡ p → 1 ∷ k ∷ w ∷ part ∷
 unfolding part_slot padded row_at done_update flag_of
 part_built k w p i part e = ap (λ (x : ℕ). 1 ∷ k ∷ x ∷ part ∷ 0 ∷ 0 ∷ i ∷ replicate 25 0) e
 
-value_padded : (k p part i : ℕ) (v : List ℕ) → length v ≡ value_width → padded (1 ∷ k ∷ p ∷ part ∷ 0 ∷ 0 ∷ i ∷ v) ≡ 1 ∷ k ∷ p ∷ part ∷ 0 ∷ 0 ∷ i ∷ (v ++ replicate (25 - value_width) 0)
-unfolding padded
-value_padded k p part i v e = ap (λ (n : ℕ). 1 ∷ k ∷ p ∷ part ∷ 0 ∷ 0 ∷ i ∷ (v ++ replicate (slot_width - suc (suc (suc (suc (suc (suc (suc n))))))) 0)) e
+pub member_built : (k p i part : ℕ) (v : ValueWithLayout) (u r : List ℕ) → u ≡ part_slot (row_at k p (done_update i [])) part [] → r ≡ sets u 7 (words_of v) →
+    r ≡ part_slot (row_at k p (done_update i [])) part (words_of v)
+unfolding part_slot padded row_at done_update flag_of words_of digits
+member_built k p i part v u r e f = f ∙ ap (λ (l : List ℕ). sets l 7 (words_of v)) (e ∙ sym (part_built k p p i part refl))
 
-pub member_built : (k p i x part : ℕ) → x ≡ part → (t : List ℕ) (at : ℕ) (u r : List ℕ) → at + value_width ≤ length t → u ≡ part_slot (row_at k p (done_update i [])) x [] →
-    r ≡ take 7 u ++ (take value_width (drop at t) ++ drop (7 + value_width) u) → r ≡ part_slot (row_at k p (done_update i [])) part (value_at at t)
-unfolding part_slot row_at done_update flag_of value_at
-member_built k p i x part same t at u r h e f =
-    f
-    ∙ ap (λ (l : List ℕ). take 7 l ++ (take value_width (drop at t) ++ drop (7 + value_width) l)) (e ∙ sym (part_built k p p i x refl))
-    ∙ ap (λ (y : ℕ). 1 ∷ k ∷ p ∷ y ∷ 0 ∷ 0 ∷ i ∷ (take value_width (drop at t) ++ replicate (25 - value_width) 0)) same
-    ∙ sym (value_padded k p part i (value_at at t) (length_value_at t at h))
+-- What is left to write of an update: members, from slot j on.
+unfoldable pub write_rest : Row Update → ℕ → List Member → List ℕ → List ℕ
+write_rest x j [] s = s
+write_rest x j (m ∷ ms) s = write_rest x (j + 1) ms (written j (member_slot x m) s)
 
--- A set is taken apart from its first tag.
-pub first_cons : (ts ts' : List ℕ) (f : ℕ) → f ≡ get_or ts 0 most_tags → f < most_tags → ts' ≡ drop 1 ts → ts ≡ f ∷ ts'
-first_cons [] ts' f e l d = absurd (omega arith)
-first_cons (t ∷ ts) ts' f e l d = ap₂ (λ (x : ℕ) (l : List ℕ). x ∷ l) (sym e) (sym d)
-
--- The same where the code asks twice for the first tag.
-pub first_again : (ts ts' : List ℕ) (f g : ℕ) → f ≡ get_or ts 0 most_tags → g ≡ get_or ts 0 most_tags → g < most_tags → ts' ≡ drop 1 ts → ts ≡ f ∷ ts'
-first_again ts ts' f g e h l d = first_cons ts ts' f e (omega arith) d
-
-pub first_empty : (low high f : ℕ) → f ≡ get_or (tags_of low high) 0 most_tags → most_tags ≤ f → tags_of low high ≡ []
-first_empty low high f e h = first_none low high (omega arith)
-
--- What is left to write of an update: the members of tags, from slot j on, with values from `from` on.
-unfoldable pub write_rest_lem : ℕ → ℕ → ℕ → List ℕ → ℕ → List ℕ → ℕ → List ℕ → List ℕ
-write_rest_lem k p i t j [] from s = s
-write_rest_lem k p i t j (tag ∷ ts) from s =
-    write_rest_lem k p i t (j + 1) ts (from + value_width) (written j (part_slot (row_at k p (done_update i [])) (suc tag) (value_at from t)) s)
-
-module _ (k p i : ℕ) (t : List ℕ) where
+module _ (x : Row Update) where
   -- one turn of the loop
-  pub write_turn : (ts ts' : List ℕ) (f j from : ℕ) (s s' u : List ℕ) → ts ≡ f ∷ ts' → u ≡ part_slot (row_at k p (done_update i [])) (suc f) (value_at from t) → s' ≡ written j u s →
-      (whole : List ℕ) → write_rest_lem k p i t j ts from s ≡ whole → write_rest_lem k p i t (j + 1) ts' (from + value_width) s' ≡ whole
-  unfolding write_rest_lem
-  write_turn ts ts' f j from s s' u e b w whole h =
-      ap (write_rest_lem k p i t (j + 1) ts' (from + value_width)) (w ∙ ap (λ (l : List ℕ). written j l s) b)
-      ∙ ap (λ (l : List ℕ). write_rest_lem k p i t j l from s) (sym e)
-      ∙ h
+  pub write_turn : (m : Member) (ms all : List Member) (j : ℕ) (s u after whole : List ℕ) → all ≡ m ∷ ms → u ≡ part_slot x (suc m.tag) m.value → after ≡ written j u s →
+      write_rest x j all s ≡ whole → write_rest x (j + 1) ms after ≡ whole
+  unfolding write_rest member_slot
+  write_turn m ms all j s u after whole e b w h =
+      ap (write_rest x (j + 1) ms) (w ∙ ap (λ (l : List ℕ). written j l s) b) ∙ sym (ap (λ (l : List Member). write_rest x j l s) e) ∙ h
 
-  pub write_end : (ts : List ℕ) (j from : ℕ) (s whole : List ℕ) → ts ≡ [] → write_rest_lem k p i t j ts from s ≡ whole → s ≡ whole
-  unfolding write_rest_lem
-  write_end ts j from s whole e h = ap (λ (l : List ℕ). write_rest_lem k p i t j l from s) (sym e) ∙ h
-
-  same_rest : (tag : ℕ) (ts : List ℕ) (from at : ℕ) (us : List Slot) (s : List ℕ) →
-      written_from at (us ++ (part_slot (row_at k p (done_update i [])) (suc tag) (value_at from t) ∷ map (member_slot (row_at k p (done_update i []))) (members_of ts (drop value_width (drop from t))))) s
-      ≡ written_from at (us ++ map (member_slot (row_at k p (done_update i []))) (members_of (tag ∷ ts) (drop from t))) s
-  unfolding members_of member_slot value_at
-  same_rest tag ts from at us s = refl
+  write_end : (ms : List Member) (j : ℕ) (s : List ℕ) → ms ≡ [] → write_rest x j ms s ≡ s
+  unfolding write_rest
+  write_end ms j s e = rw e
 
   -- the slots that it writes follow those that are there
-  write_rest : (ts : List ℕ) (from at : ℕ) (us : List Slot) (s : List ℕ) → every is_whole us ≡ true → at ≤ units_in (length s) → from + value_width * length ts ≤ length t →
-      write_rest_lem k p i t (at + length us) ts from (written_from at us s) ≡ written_from at (us ++ map (member_slot (row_at k p (done_update i []))) (members_of ts (drop from t))) s
-  unfolding write_rest_lem members_of
-  write_rest [] from at us s w h l = ap (λ (x : List Slot). written_from at x s) (sym (append-nil us))
-  write_rest (tag ∷ ts) from at us s w h l =
-      let m : Slot = part_slot (row_at k p (done_update i [])) (suc tag) (value_at from t) in
-      let size : length (value_at from t) ≡ value_width = length_value_at t from (omega arith) in
-      let whole : is_whole m ≡ true = part_whole (row_at k p (done_update i [])) (suc tag) (value_at from t) (omega arith) in
-      let n : at + length us + 1 ≡ at + length (us ++ (m ∷ [])) = omega (arith, length-append us (m ∷ [])) in
-      let d : drop (from + value_width) t ≡ drop value_width (drop from t) = drop_more from t in
-      ap (write_rest_lem k p i t (at + length us + 1) ts (from + value_width)) (written_next at us m s w h)
-      ∙ ap (λ (x : ℕ). write_rest_lem k p i t x ts (from + value_width) (written_from at (us ++ (m ∷ [])) s)) n
-      ∙ write_rest ts (from + value_width) at (us ++ (m ∷ [])) s (every_snoc us m w whole) h (omega arith)
-      ∙ ap (λ (x : List Slot). written_from at x s)
-      (append_assoc us (m ∷ []) (map (member_slot (row_at k p (done_update i []))) (members_of ts (drop (from + value_width) t)))
-      ∙ ap (λ (x : List ℕ). us ++ (m ∷ map (member_slot (row_at k p (done_update i []))) (members_of ts x))) d)
-      ∙ same_rest tag ts from at us s
+  write_more : (ms : List Member) (at : ℕ) (us : List Slot) (s : List ℕ) → every is_wide ms ≡ true → every is_whole us ≡ true → at ≤ units_in (length s) →
+      write_rest x (at + length us) ms (written_from at us s) ≡ written_from at (us ++ map (member_slot x) ms) s
+  unfolding write_rest every is_wide
+  write_more [] at us s w h l = ap (λ (y : List Slot). written_from at y s) (sym (append-nil us))
+  write_more (m ∷ ms) at us s w h l =
+      let u : Slot = member_slot x m in
+      let size : length m.value ≡ value_width = eqb-true (length m.value) value_width (and_left (is_wide m) (every is_wide ms) w) in
+      let whole : is_whole u ≡ true = member_whole m size in
+      let n : at + length us + 1 ≡ at + length (us ++ (u ∷ [])) = omega (arith, length-append us (u ∷ [])) in
+      ap (write_rest x (at + length us + 1) ms) (written_next at us u s h l)
+      ∙ ap (λ (y : ℕ). write_rest x y ms (written_from at (us ++ (u ∷ [])) s)) n
+      ∙ write_more ms at (us ++ (u ∷ [])) s (and_right (is_wide m) (every is_wide ms) w) (every_snoc us u h whole) l
+      ∙ ap (λ (y : List Slot). written_from at y s) (append_assoc us (u ∷ []) (map (member_slot x) ms))
+    where
+      member_whole : (y : Member) → length y.value ≡ value_width → is_whole (member_slot x y) ≡ true
+      member_whole y e = unfold member_slot in part_whole x (suc y.tag) y.value (omega arith)
 
-  pub write_all : (ts : List ℕ) (at j : ℕ) (s u : List ℕ) → u ≡ part_slot (row_at k p (done_update i [])) 0 [] → j ≤ units_in (length s) → at + value_width * length ts ≤ length t →
-      write_rest_lem k p i t (j + 1) ts at (written j u s) ≡ written_from j (update_slots (row_at k p (done_update i (members_of ts (drop at t))))) s
-  unfolding update_slots row_at done_update every is_whole members_of part_slot member_slot
-  write_all ts at j s u e h l =
-      let head : Slot = part_slot (row_at k p (done_update i [])) 0 [] in
-      ap (write_rest_lem k p i t (j + 1) ts at) (ap (λ (x : List ℕ). written j x s) e ∙ written_one j head s)
-      ∙ write_rest ts at j (head ∷ []) s (and_both (is_whole head) true (part_whole (row_at k p (done_update i [])) 0 [] (omega arith)) refl) h l
-
-  pub write_none : (ts : List ℕ) (from at : ℕ) (s : List ℕ) → at ≤ units_in (length s) → from + value_width * length ts ≤ length t →
-      write_rest_lem k p i t at ts from s ≡ written_from at (map (member_slot (row_at k p (done_update i []))) (members_of ts (drop from t))) s
+  write_none : (ms : List Member) (at : ℕ) (s : List ℕ) → every is_wide ms ≡ true → at ≤ units_in (length s) → write_rest x at ms s ≡ written_from at (map (member_slot x) ms) s
   unfolding every
-  write_none ts from at s h l =
+  write_none ms at s w h =
       let n : at ≡ at + 0 = omega arith in
-      ap (λ (x : ℕ). write_rest_lem k p i t x ts from s) n
-      ∙ ap (write_rest_lem k p i t (at + 0) ts from) (sym (written_from_none at s))
-      ∙ write_rest ts from at [] s refl h l
+      ap (λ (y : ℕ). write_rest x y ms s) n
+      ∙ ap (write_rest x (at + 0) ms) (sym (written_from_none at s))
+      ∙ write_more ms at [] s w refl h
 
   -- the loop's end
-  pub members_built : (low high j from : ℕ) (s : List ℕ) → tags_of low high ≡ [] → (ts : List ℕ) (at i₀ : ℕ) (s₀ : List ℕ) →
-      i₀ + length ts ≤ units_in (length s₀) → at + value_width * length ts ≤ length t →
-      write_rest_lem k p i t j (tags_of low high) from s ≡ write_rest_lem k p i t i₀ ts at s₀ →
-      s ≡ written_from i₀ (map (member_slot (row_at k p (done_update i []))) (members_of ts (drop at t))) s₀
-  members_built low high j from s e ts at i₀ s₀ h l inv =
-      write_end (tags_of low high) j from s (write_rest_lem k p i t i₀ ts at s₀) e inv
-      ∙ write_none ts at i₀ s₀ (omega arith) l
+  pub members_built : (rest all : List Member) (j i : ℕ) (s d : List ℕ) → rest ≡ [] → every is_wide all ≡ true → i + length all ≤ units_in (length d) →
+      write_rest x j rest s ≡ write_rest x i all d → s ≡ written_from i (map (member_slot x) all) d
+  members_built rest all j i s d e w h inv = sym (write_end rest j s e) ∙ inv ∙ write_none all i d w (omega arith)
 
-  -- an update's slots: its own, then its members'
-  pub update_built : (ts : List ℕ) (at j : ℕ) (s u mid after : List ℕ) → u ≡ part_slot (row_at k p (done_update i [])) 0 [] → mid ≡ written j u s → length mid ≡ length s →
-      j + 1 ≤ units_in (length s) → at + value_width * length ts ≤ length t →
-      after ≡ written_from (j + 1) (map (member_slot (row_at k p (done_update i []))) (members_of ts (drop at t))) mid →
-      after ≡ written_from j (update_slots (row_at k p (done_update i (members_of ts (drop at t))))) s
-  update_built ts at j s u mid after e w same h l f =
-      f
-      ∙ sym (write_none ts at (j + 1) mid (rw same h) l)
-      ∙ ap (write_rest_lem k p i t (j + 1) ts at) w
-      ∙ write_all ts at j s u e (omega arith) l
+-- an update's slots: its own, then its members'
+pub update_built : (k p i : ℕ) (ms : List Member) (j : ℕ) (s u mid after : List ℕ) → every is_wide ms ≡ true → u ≡ part_slot (row_at k p (done_update i [])) 0 [] → mid ≡ written j u s →
+    length mid ≡ length s → j + suc (length ms) ≤ units_in (length s) → after ≡ written_from (j + 1) (map (member_slot (row_at k p (done_update i []))) ms) mid →
+    after ≡ written_from j (update_slots (row_at k p (done_update i ms))) s
+unfolding update_slots row_at done_update every is_whole part_slot member_slot
+update_built k p i ms j s u mid after wide e w same h f =
+    let x : Row Update = row_at k p (done_update i []) in
+    let head : Slot = part_slot x 0 [] in
+    f
+    ∙ sym (write_none x ms (j + 1) mid wide (rw same (omega arith)))
+    ∙ ap (write_rest x (j + 1) ms) (w ∙ ap (λ (y : List ℕ). written j y s) e ∙ written_one j head s)
+    ∙ write_more x ms j (head ∷ []) s wide (and_both (is_whole head) true (part_whole x 0 [] (omega arith)) refl) (omega arith)

@@ -11,8 +11,7 @@ use lib.Seq.{drop_at}
 use Rattle.lists.specs.Lists.{every}
 use Rattle.types.specs.Refusal.{nothing_there}
 use Rattle.types.specs.Units.{lack_of, units_in}
-use Rattle.request.specs.Set.{Member, tags_of}
-use Rattle.request.specs.declared.set.Set.{Set}
+use Rattle.request.specs.Set.{Member}
 use Rattle.slots.specs.Slots.{Slot, slot_width, is_whole, flat, encode, held, closed, slots, padded}
 use Rattle.slots.specs.Runs.{spliced, resized, written_from}
 use Rattle.slots.proofs.SlotSplices.{spliced_parts, encode_spliced, encode_rewritten, encode_removed}
@@ -27,12 +26,11 @@ use Rattle.group_slots.specs.Layout.{Groups, groups_in, group_valid, group_slots
 use Rattle.group_slots.specs.declared.find.Run.{Run}
 use Rattle.group_slots.specs.Found.{start_of, slots_taken, run_of}
 use Rattle.versioned_group_data.specs.Ruled.{editing, Ruled}
-use Rattle.versioned_group_data.specs.Members.{done_update, members_at, recording, marked}
+use Rattle.versioned_group_data.specs.Members.{done_update, recording, marked}
 use Rattle.group_slots.proofs.SlotParts.{slots_whole, update_whole, length_group_slots, length_update_slots}
 use Rattle.group_slots.proofs.GroupHolding.{holding_groups, fine_valid, few_valid, rising_valid, length_held_valid}
 use Rattle.group_slots.proofs.GroupMembers.{fine_found}
 use Rattle.group_slots.proofs.GroupSplits.{own_slots_lem, lower_slots, upper_slots, length_own_slots, length_lower_slots, put_slots, groups_split, erase_slots, held_split, held_put, held_erase}
-use Rattle.versioned_group_data.proofs.MembersHanded.{length_members_at}
 use Rattle.versioned_group_data.proofs.GroupRulings.{held_lack_in, ruled_refused, ruled_full, ruled_done}
 
 -- A valid store, and an update that is looked for in it.
@@ -208,11 +206,6 @@ module _ (s : List ℕ) (v : group_valid s ≡ true) (k p : ℕ) where
 
 -- ---- from what a search answered
 
--- the slots that an update takes
-recorded_size : (i : ℕ) (tags : Set) (at : ℕ) (t : List ℕ) (l : ℕ) → l ≡ length (tags_of tags.low tags.high) → 1 + l ≡ suc (length (done_update i (members_at tags at t)).members)
-unfolding done_update
-recorded_size i tags at t l e = omega (arith, length_members_at tags at t)
-
 module _ (s : List ℕ) (v : group_valid s ≡ true) (k p q : ℕ) (same : q ≡ p) (run : Run) (found : run ≡ run_of k q (groups_in s)) where
   run_at : run.at ≡ start_of k p (groups_in s)
   unfolding run_of
@@ -257,12 +250,13 @@ module _ (s : List ℕ) (v : group_valid s ≡ true) (k p q : ℕ) (same : q ≡
     remove_done after e =
         removed s v k p after (e ∙ ap₂ (λ (a b : ℕ). closed a b n s) run_len run_at ∙ erased_words s v k p n count_is)
 
-    module _ (i : ℕ) (tags : Set) (at : ℕ) (t : List ℕ) (l : ℕ) (size : l ≡ length (tags_of tags.low tags.high)) where
+    module _ (i : ℕ) (ms : List Member) (l : ℕ) (size : l ≡ length ms) where
       abbrev u : Update
-      u = done_update i (members_at tags at t)
+      u = done_update i ms
 
       takes : 1 + l ≡ suc (length u.members)
-      takes = recorded_size i tags at t l size
+      unfolding done_update
+      takes = omega arith
 
       -- what is held after, and what lacks, as the code asks for it
       held_after : n - run.len + (1 + l) ≡ held_by (new s v k p u)

@@ -5,11 +5,11 @@ use mathlib.Core.Bool.{Bool, true, false, not, ◌||◌}
 use mathlib.Core.List.{List, [], ◌∷◌}
 use mathlib.Core.Option.{Option, none, some}
 use Prim.Native.Nat.{ℕ, ◌+◌}
-use native.Mathlib.Omega.{arith}
 use lib.ListN.{drop}
 use Rattle.types.specs.Value.{value_width}
 use Rattle.request.specs.Set.{Member, tags_of, members_of}
-use Rattle.request.specs.declared.set.Set.{Set}
+use Rattle.request.specs.declared.members.Members.{Members}
+use Rattle.request.specs.Members as Handed
 use Rattle.std.proofs.Common.{Result}
 use Rattle.std.proofs.Common.{Result, Ok, Err}
 use Rattle.model.specs.Rows.{find}
@@ -19,12 +19,13 @@ use Rattle.group_slots.specs.Layout.{groups_in}
 use Rattle.slots.specs.Found.{found_of}
 use Rattle.group_slots.specs.Found.{member_found, start_of, lower_in}
 use Rattle.versioned_group_data.specs.Ruled.{editing, result_of, words_after, Ruled}
-use Rattle.versioned_group_data.specs.Members.{done_update, members_at, recording}
+use Rattle.versioned_group_data.specs.Members.{done_update, recording}
 use Rattle.versioned_group_data.specs.Written.{Writes, written_of}
 use Rattle.versioned_group_data.specs.declared.update.Written.TheVariants.{Done, Outside}
 use Rattle.versioned_group_data.specs.declared.update.Written.{Written}
 use Rattle.types.specs.Refusal.{refusal_number}
 use Rattle.types.specs.declared.refusal.Refusal.{Refusal}
+use Rattle.std.specs.Result.{is_err}
 
 -- the values play no part
 outside_words : (ts ws vs : List ℕ) (es : List Member) → outside (members_of ts ws) es ≡ outside (members_of ts vs) es
@@ -41,43 +42,36 @@ pub outside_end : (ts : List ℕ) (es : List Member) (b : Bool) → ts ≡ [] �
 unfolding outside members_of
 outside_end ts es b e h = ap (λ (l : List ℕ). outside (members_of l []) es) (sym e) ∙ h
 
-there_some : {A : Type 0} (n i : ℕ) (o : Option A) → found_of n o ≡ Ok i → is_some o ≡ true
+found_err : {A : Type 0} (n : ℕ) (o : Option A) → is_err (found_of n o) ≡ not (is_some o)
 unfolding found_of is_some
-there_some n i none e = absurd (let z : ◌≡◌ {A = ℕ} 0 1 = cc in omega arith)
-there_some n i (some a) e = refl
-
-absent_none : {A : Type 0} (n i : ℕ) (o : Option A) → found_of n o ≡ Err i → is_some o ≡ false
-unfolding found_of is_some
-absent_none n i none e = refl
-absent_none n i (some a) e = absurd (let z : ◌≡◌ {A = ℕ} 0 1 = cc in omega arith)
+found_err n none = refl
+found_err n (some a) = refl
 
 -- A tag that is looked for among the members of the update there.
-module _ (s : List ℕ) (k p : ℕ) (ts ts' : List ℕ) (f : ℕ) (cons : ts ≡ f ∷ ts') (r : Result ℕ ℕ) (found : r ≡ member_found k p f (groups_in s)) (i : ℕ) (b : Bool)
+module _ (s : List ℕ) (k p : ℕ) (ts ts' : List ℕ) (f : ℕ) (cons : ts ≡ f ∷ ts') (r : Result ℕ ℕ) (found : r ≡ member_found k p f (groups_in s)) (a b : Bool) (told : a ≡ is_err r)
     (rest : outside (members_of ts []) (members_in (find k p (groups_in s).updates)) ≡ b) where
   abbrev es : List Member
   es = members_in (find k p (groups_in s).updates)
 
-  split : (not (is_some (member_value f es)) || outside (members_of ts' []) es) ≡ b
-  split = sym (outside_cons f ts' es) ∙ ap (λ (l : List ℕ). outside (members_of l []) es) (sym cons) ∙ rest
-
-  pub outside_there : r ≡ Ok i → outside (members_of ts' []) es ≡ b
+  split : (a || outside (members_of ts' []) es) ≡ b
   unfolding member_found
-  outside_there e =
-      let h : is_some (member_value f es) ≡ true = there_some (start_of k p (groups_in s) + lower_in f (find k p (groups_in s).updates)) i (member_value f es) (sym found ∙ e) in
-      ap (λ (c : Bool). not c || outside (members_of ts' []) es) (sym h) ∙ split
+  split =
+      ap (λ (c : Bool). c || outside (members_of ts' []) es)
+      (told ∙ ap is_err found ∙ found_err (start_of k p (groups_in s) + lower_in f (find k p (groups_in s).updates)) (member_value f es))
+      ∙ sym (outside_cons f ts' es) ∙ ap (λ (l : List ℕ). outside (members_of l []) es) (sym cons) ∙ rest
 
-  pub outside_absent : r ≡ Err i → true ≡ b
-  unfolding member_found
-  outside_absent e =
-      let h : is_some (member_value f es) ≡ false = absent_none (start_of k p (groups_in s) + lower_in f (find k p (groups_in s).updates)) i (member_value f es) (sym found ∙ e) in
-      ap (λ (c : Bool). not c || outside (members_of ts' []) es) (sym h) ∙ split
+  pub outside_there : a ≡ false → outside (members_of ts' []) es ≡ b
+  outside_there e = ap (λ (c : Bool). c || outside (members_of ts' []) es) (sym e) ∙ split
+
+  pub outside_absent : a ≡ true → true ≡ b
+  outside_absent e = ap (λ (c : Bool). c || outside (members_of ts' []) es) (sym e) ∙ split
 
 -- A write is a record of the update, and its report.
-module _ (s : List ℕ) (k p q : ℕ) (same : q ≡ p) (i : ℕ) (tags : Set) (at : ℕ) (t : List ℕ) (b : Bool)
-    (report : b ≡ outside (members_of (tags_of tags.low tags.high) []) (members_in (find k q (groups_in s).updates))) (n : ℕ) (after : List ℕ)
-    (recorded : Ruled s (recording k q (done_update i (members_at tags at t)) (groups_in s)) n after) where
+module _ (s : List ℕ) (k p q : ℕ) (same : q ≡ p) (i : ℕ) (handed : Members) (b : Bool)
+    (report : b ≡ outside (members_of (tags_of handed.set.low handed.set.high) []) (members_in (find k q (groups_in s).updates))) (n : ℕ) (after : List ℕ)
+    (recorded : Ruled s (recording k q (done_update i (Handed.members_in handed)) (groups_in s)) n after) where
   abbrev ms : List Member
-  ms = members_at tags at t
+  ms = Handed.members_in handed
 
   result_is : n ≡ result_of s (editing (groups_in s) k p (write_group i ms))
   unfolding recording editing ruled write_group done_update result_of
@@ -88,10 +82,10 @@ module _ (s : List ℕ) (k p q : ℕ) (same : q ≡ p) (i : ℕ) (tags : Set) (a
   words_are = recorded.words ∙ ap (λ (x : ℕ). words_after s (recording k x (done_update i ms) (groups_in s))) same
 
   report_is : b ≡ outside ms (members_in (find k p (groups_in s).updates))
-  unfolding members_at
+  unfolding Handed.members_in
   report_is =
       report
-      ∙ outside_words (tags_of tags.low tags.high) [] (drop at t) (members_in (find k q (groups_in s).updates))
+      ∙ outside_words (tags_of handed.set.low handed.set.high) [] handed.values.now (members_in (find k q (groups_in s).updates))
       ∙ ap (λ (x : ℕ). outside ms (members_in (find k x (groups_in s).updates))) same
 
   pub write_refused : (e : Refusal) → refusal_number e ≡ n → Writes s k p i ms (Err e) after

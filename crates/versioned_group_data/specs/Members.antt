@@ -1,17 +1,12 @@
--- The members that a request hands over, and the update that they make.
-use Rattle.std.specs.Prelude.{false, List, ℕ, drop, set as set_at}
-use Rattle.request.specs.Set.{Member, tags_of, members_of}
-use Rattle.request.specs.declared.set.Set.{Set}
+-- The update that a request's members make.
+use Rattle.std.specs.Prelude.{false, List, ℕ, set as set_at}
+use Rattle.request.specs.Set.{Member}
 use Rattle.slots.specs.Slots.{Slot}
 use Rattle.model.specs.Rows.{set}
 use Rattle.model.specs.Data.{Ruling, accept, done_answer}
 use Rattle.model.specs.Group.{Update}
 use Rattle.group_slots.specs.Layout.{Groups}
 use Rattle.versioned_group_data.specs.Ruled.{editing}
-
--- The members of a set whose values stand in words from `at` on.
-unfoldable pub members_at : Set → ℕ → List ℕ → List Member
-members_at tags at t = members_of (tags_of tags.low tags.high) (drop at t)
 
 -- An update that is done.
 unfoldable pub done_update : ℕ → List Member → Update

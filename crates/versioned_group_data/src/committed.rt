@@ -20,7 +20,10 @@ fn write_set(out: &mut [u32], n: usize, set: Set)
     requires few { n ≤ most_tags }
     ensures written { out.new ≡ head_of committed_kind (set_width + value_width * n) ∷ set.low ∷ set.high ∷ drop 3 out.old }
 {
-    out[0] = head(AnswerKind::Committed.number(), SET_WIDTH + VALUE_WIDTH * n);
+    out[0] = head(
+        u32::from(AnswerKind::Committed),
+        SET_WIDTH + VALUE_WIDTH * n,
+    );
     out[1] = set.low;
     out[2] = set.high;
 }

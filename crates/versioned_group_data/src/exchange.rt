@@ -1,7 +1,8 @@
 // `update_tagged_base_value_with_layout` of versioned_group_data.rs: identifiers in a base value are exchanged, there and where it is committed.
 ghost use Rattle.std.specs.Prelude.{◌≡◌, true, ◌+◌, ◌*◌, ◌≤◌, ◌<◌, length};
 ghost use Rattle.types.specs.Refusal.{result_number};
-ghost use Rattle.types.specs.Value.{value_at, value_width, is_exchanged};
+ghost use Rattle.types.specs.Value.{value_at, is_exchanged};
+ghost use Rattle.types.specs.ValueWithLayout.{words_of};
 ghost use Rattle.slots.specs.Slots.{slot_width, slot_at, written};
 ghost use Rattle.types.specs.Units.{units_in};
 ghost use Rattle.model.specs.Group as rule;
@@ -9,13 +10,12 @@ ghost use Rattle.group_slots.specs.Layout.{group_valid, groups_in};
 ghost use Rattle.versioned_group_data.specs.Ruled.{Ruled, committing};
 ghost use Rattle.versioned_group_data.specs.Exchange.{with_value};
 
-use group_slots::find::{find_committed, find_member};
+use group_slots::find::{GroupStore, Tag};
 use group_slots::layout;
-use slots::edit::copy_words;
 use slots::slot::SLOT_WIDTH;
 use types::index::ShiftedTxnIndex;
 use types::refusal::Refusal;
-use types::value::{VALUE_WIDTH, ValueWithLayout};
+use types::value::ValueWithLayout;
 
 // Whether the value of slot i is `Exchanged`.
 fn is_exchanged(s: &[u32], i: usize) -> bool
@@ -25,13 +25,12 @@ fn is_exchanged(s: &[u32], i: usize) -> bool
     ValueWithLayout::read(s, SLOT_WIDTH * i + layout::VALUE).is_exchanged()
 }
 
-// The value of slot i replaced by the one at `at` of a request's words.
-fn write_value(s: &mut [u32], i: usize, t: &[u32], at: usize)
+// The value of slot i replaced.
+fn write_value(s: &mut [u32], i: usize, v: ValueWithLayout)
     requires slot { i < units_in (length s.old) }
-    requires inside { at + value_width ≤ length t.now }
-    ensures written { s.new ≡ written i (with_value (value_at at t.now) (slot_at i s.old)) s.old }
+    ensures written { s.new ≡ written i (with_value (words_of v) (slot_at i s.old)) s.old }
 {
-    copy_words(s, SLOT_WIDTH * i + layout::VALUE, t, at, VALUE_WIDTH);
+    v.write(s, SLOT_WIDTH * i + layout::VALUE);
 }
 
 // The base and the committed value are exchanged together. `NothingThere` stands for the Rust's panic at a base that is not there, `NothingToExchange`
@@ -40,37 +39,28 @@ pub fn update_tagged_base_value_with_layout(
     s: &mut [u32],
     key: u32,
     tag: u32,
-    t: &[u32],
-    at: usize,
+    value: ValueWithLayout,
 ) -> Result<(), Refusal>
     requires valid { group_valid s.old ≡ true }
     requires tag { «tag» ≤ 63 }
-    requires inside { at + value_width ≤ length t.now }
     ensures exchanged { Ruled s.old
-        (committing (groups_in s.old) key 0 (rule.update_tagged_base_value key «tag» (value_at at t.now)))
+        (committing (groups_in s.old) key 0 (rule.update_tagged_base_value key «tag» (words_of value)))
         (result_number result) s.new }
 {
-    match find_member(s, key, ShiftedTxnIndex::zero_idx(), tag) {
-        Err(_) => {
-            return Err(Refusal::NothingThere);
-        }
-        Ok(i) => {
-            if is_exchanged(s, i) {
-                return Ok(());
-            }
-            match find_committed(s, key, tag) {
-                Err(_) => {
-                    return Err(Refusal::NothingToExchange);
-                }
-                Ok(j) => {
-                    if is_exchanged(s, j) {
-                        return Err(Refusal::NothingToExchange);
-                    }
-                    write_value(s, i, t, at);
-                    write_value(s, j, t, at);
-                    return Ok(());
-                }
-            }
-        }
+    let store = GroupStore { words: s };
+    let Ok(i) = store.find_member(key, ShiftedTxnIndex::zero_idx(), Tag { number: tag }) else {
+        return Err(Refusal::NothingThere);
+    };
+    if is_exchanged(s, i) {
+        return Ok(());
     }
+    let Ok(j) = store.find_committed(key, tag) else {
+        return Err(Refusal::NothingToExchange);
+    };
+    if is_exchanged(s, j) {
+        return Err(Refusal::NothingToExchange);
+    }
+    write_value(s, i, value);
+    write_value(s, j, value);
+    Ok(())
 }

@@ -5,17 +5,40 @@ ghost use Rattle.types.specs.Refusal.{result_number};
 ghost use Rattle.types.specs.Response.{answer_width};
 ghost use Rattle.model.specs.Group as rule;
 ghost use Rattle.group_slots.specs.Layout.{group_valid, groups_in};
-ghost use Rattle.versioned_group_data.specs.Ruled.{Answered, committing};
+ghost use Rattle.versioned_group_data.specs.Ruled.{Ruled, Answered, committing};
 
 use crate::collect::{collect_tags, collect_values, set_words};
 use crate::commit::try_commit;
 use crate::committed::get_last_committed_group;
-use group_slots::find::find_update;
+use group_slots::find::GroupStore;
 use group_slots::layout;
+use request::members::Members;
 use types::index::{ShiftedTxnIndex, TxnIndex};
 use types::refusal::Refusal;
 use types::response::MOST_TAGS;
 use types::value::VALUE_WIDTH;
+
+// Commits the update of a transaction.
+fn commit_update(s: &mut [u32], key: u32, txn_idx: TxnIndex) -> Result<(), Refusal>
+    requires valid { group_valid s.old ≡ true }
+    requires served { txn_idx < index_bound }
+    ensures committed { Ruled s.old (committing (groups_in s.old) key (suc txn_idx) (rule.finalize_group key)) (result_number result) s.new }
+{
+    let run = GroupStore { words: s }.find_update(key, ShiftedTxnIndex::new(txn_idx));
+    if run.len == 0 {
+        return Err(Refusal::NothingThere);
+    }
+    let first = run.at + 1;
+    let n = run.len - 1;
+    let set = set_words(collect_tags(s, first, n, layout::PART, 1));
+    let mut words = [0u32; MOST_TAGS * VALUE_WIDTH];
+    collect_values(s, first, n, &mut words, 0);
+    let members = Members {
+        set,
+        values: &words,
+    };
+    try_commit(s, key, members, 0)
+}
 
 // Commits the update of a transaction and answers the committed group. `NothingThere` stands for the Rust's error at an update that is not there.
 pub fn finalize_group(
@@ -30,16 +53,7 @@ pub fn finalize_group(
     ensures finalized { Answered s.old out.old (committing (groups_in s.old) key (suc txn_idx) (rule.finalize_group key))
         (result_number result) s.new out.new }
 {
-    let run = find_update(s, key, ShiftedTxnIndex::new(txn_idx));
-    if run.len == 0 {
-        return Err(Refusal::NothingThere);
-    }
-    let first = run.at + 1;
-    let n = run.len - 1;
-    let set = set_words(collect_tags(s, first, n, layout::PART, 1));
-    let mut values = [0u32; MOST_TAGS * VALUE_WIDTH];
-    collect_values(s, first, n, &mut values, 0);
-    try_commit(s, key, set, &values, 0, 0)?;
+    commit_update(s, key, txn_idx)?;
     get_last_committed_group(s, key, out);
     Ok(())
 }

@@ -1,10 +1,7 @@
--- `versioned_group_data::base::all_agree` meets its contract: the tags that are left decide.
+-- What is left decides.
 -- Assumes nothing.
-use mathlib.Core.Path.{◌≡◌}
-use Prim.Native.Nat.{◌+◌, ◌*◌, ◌≤◌}
-use lib.ListN.{length, drop}
-use Rattle.types.specs.Value.{value_width}
-use Rattle.request.specs.Set.{tags_of, members_of}
+use Rattle.std.proofs.Common.{◌≡◌, length}
+use Rattle.request.specs.Members as Handed
 use Rattle.model.specs.Rows.{find}
 use Rattle.model.specs.Group.{all_agree, members_in}
 use Rattle.group_slots.specs.Layout.{groups_in}
@@ -12,9 +9,8 @@ use Rattle.versioned_group_data.proofs.base.all_agree.Given as goal
 
 abbrev pub invariant-loop-tag : goal.invariant-loop-tag
 invariant-loop-tag l =
-    (all_agree (members_of (tags_of l.rest.low l.rest.high) (drop l.from l.t)) (members_in (find l.key 0 (groups_in l.s).updates))
-    ≡ all_agree (members_of (tags_of l.initial.rest.low l.initial.rest.high) (drop l.initial.from l.t)) (members_in (find l.key 0 (groups_in l.s).updates)))
-    × (l.from + value_width * length (tags_of l.rest.low l.rest.high) ≤ length l.t)
+    all_agree (Handed.members_in l.rest) (members_in (find l.key 0 (groups_in l.store.words.now).updates))
+    ≡ all_agree (Handed.members_in l.fn.members) (members_in (find l.key 0 (groups_in l.store.words.now).updates))
 
 abbrev pub decreases-loop-tag : goal.decreases-loop-tag
-decreases-loop-tag l = length (tags_of l.rest.low l.rest.high)
+decreases-loop-tag l = length (Handed.members_in l.rest)

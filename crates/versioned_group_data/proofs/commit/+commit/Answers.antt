@@ -2,35 +2,31 @@
 -- Assumes nothing.
 use borrow.Author.Rules.{rules}
 use native.Mathlib.Omega.{arith}
-use mathlib.Core.Path.{sym, ◌∙◌}
-use Rattle.versioned_group_data.proofs.MembersHanded.{handed_none, handed_length, handed_first}
+use mathlib.Core.Path.{sym, ap, ◌∙◌}
+use lib.ListN.{length}
 use Rattle.versioned_group_data.proofs.CommitSteps.{fine_rest, key_word, commit_none, valid_erased, fits_erased, commit_deletion, fits_rest, valid_rest, fits_put, commit_other}
 use Rattle.versioned_group_data.proofs.commit.+commit.Goals as goal
 
 pub returns-in_default : goal.returns-in_default
 returns-in_default t c =
-    record { committed = commit_none _ c.requires.valid _ _ (handed_none c.args.set c.in_default.ensures.none _ _) }
-
-pub read-v-requires : goal.read-v-requires
-read-v-requires t c =
-    record { inside = omega (arith, handed_length c.args.set _ _ c.in-Some.ensures.some, c.requires.inside) }
+    record { committed = commit_none _ c.requires.valid _ _ c.in_default.ensures.none }
 
 pub commit-requires : goal.commit-requires
 commit-requires t c =
-    (omega (arith, handed_length c.args.set _ _ c.in-Some.ensures.some, c.decreases), (valid_erased _ c.requires.valid _ _ _ _ (handed_first c.args.set _ _ c.in-Some.ensures.some _ _ (λ i. (c.type_inv.t i).fits) c.requires.inside _ c.read-v.ensures.value) c.requires.fits (sym c.is_deletion.ensures.deletion ∙ c.if-is_deletion.true) _ c.erase_committed.ensures.erased, (omega (arith, handed_length c.args.set _ _ c.in-Some.ensures.some, c.requires.inside), (fine_rest _ _ _ (handed_first c.args.set _ _ c.in-Some.ensures.some _ _ (λ i. (c.type_inv.t i).fits) c.requires.inside _ c.read-v.ensures.value) c.requires.members, fits_erased _ c.requires.valid _ _ _ _ (handed_first c.args.set _ _ c.in-Some.ensures.some _ _ (λ i. (c.type_inv.t i).fits) c.requires.inside _ c.read-v.ensures.value) c.requires.fits (sym c.is_deletion.ensures.deletion ∙ c.if-is_deletion.true) _ c.erase_committed.ensures.erased))))
+    (omega (arith, ap length c.in-Some.ensures.some, c.decreases), (valid_erased _ c.requires.valid _ _ _ _ c.in-Some.ensures.some c.requires.fits (sym c.is_deletion.ensures.deletion ∙ c.if-is_deletion.true) _ c.erase_committed.ensures.erased, ((fine_rest _ _ _ c.in-Some.ensures.some c.requires.members, fits_erased _ c.requires.valid _ _ _ _ c.in-Some.ensures.some c.requires.fits (sym c.is_deletion.ensures.deletion ∙ c.if-is_deletion.true) _ c.erase_committed.ensures.erased))))
 
 pub returns-then-is_deletion : goal.returns-then-is_deletion
 returns-then-is_deletion t c =
-    record { committed = commit_deletion _ c.requires.valid _ _ _ _ (handed_first c.args.set _ _ c.in-Some.ensures.some _ _ (λ i. (c.type_inv.t i).fits) c.requires.inside _ c.read-v.ensures.value) c.requires.fits (sym c.is_deletion.ensures.deletion ∙ c.if-is_deletion.true) _ c.erase_committed.ensures.erased _ c.commit.ensures.committed }
+    record { committed = commit_deletion _ c.requires.valid _ _ _ _ c.in-Some.ensures.some c.requires.fits (sym c.is_deletion.ensures.deletion ∙ c.if-is_deletion.true) _ c.erase_committed.ensures.erased _ c.commit.ensures.committed }
 
 pub commit-requires-2 : goal.commit-requires-2
 commit-requires-2 t c =
-    (omega (arith, handed_length c.args.set _ _ c.in-Some.ensures.some, c.decreases), (c.requires.valid, (omega (arith, handed_length c.args.set _ _ c.in-Some.ensures.some, c.requires.inside), (fine_rest _ _ _ (handed_first c.args.set _ _ c.in-Some.ensures.some _ _ (λ i. (c.type_inv.t i).fits) c.requires.inside _ c.read-v.ensures.value) c.requires.members, fits_rest _ c.requires.valid _ _ _ _ (handed_first c.args.set _ _ c.in-Some.ensures.some _ _ (λ i. (c.type_inv.t i).fits) c.requires.inside _ c.read-v.ensures.value) c.requires.fits (sym c.is_deletion.ensures.deletion ∙ c.if-is_deletion.false)))))
+    (omega (arith, ap length c.in-Some.ensures.some, c.decreases), (c.requires.valid, ((fine_rest _ _ _ c.in-Some.ensures.some c.requires.members, fits_rest _ c.requires.valid _ _ _ _ c.in-Some.ensures.some c.requires.fits (sym c.is_deletion.ensures.deletion ∙ c.if-is_deletion.false)))))
 
 pub put_committed-requires : goal.put_committed-requires
 put_committed-requires t c =
-    record { valid = valid_rest _ c.requires.valid _ _ _ _ (handed_first c.args.set _ _ c.in-Some.ensures.some _ _ (λ i. (c.type_inv.t i).fits) c.requires.inside _ c.read-v.ensures.value) c.requires.fits (sym c.is_deletion.ensures.deletion ∙ c.if-is_deletion.false) (key_word _ (search rules)) (fine_rest _ _ _ (handed_first c.args.set _ _ c.in-Some.ensures.some _ _ (λ i. (c.type_inv.t i).fits) c.requires.inside _ c.read-v.ensures.value) c.requires.members) _ c.commit-2.ensures.committed; fits = fits_put _ c.requires.valid _ _ _ _ (handed_first c.args.set _ _ c.in-Some.ensures.some _ _ (λ i. (c.type_inv.t i).fits) c.requires.inside _ c.read-v.ensures.value) c.requires.fits (sym c.is_deletion.ensures.deletion ∙ c.if-is_deletion.false) (key_word _ (search rules)) (fine_rest _ _ _ (handed_first c.args.set _ _ c.in-Some.ensures.some _ _ (λ i. (c.type_inv.t i).fits) c.requires.inside _ c.read-v.ensures.value) c.requires.members) _ c.commit-2.ensures.committed }
+    record { valid = valid_rest _ c.requires.valid _ _ _ _ c.in-Some.ensures.some c.requires.fits (sym c.is_deletion.ensures.deletion ∙ c.if-is_deletion.false) (key_word _ (search rules)) (fine_rest _ _ _ c.in-Some.ensures.some c.requires.members) _ c.commit-2.ensures.committed; fits = fits_put _ c.requires.valid _ _ _ _ c.in-Some.ensures.some c.requires.fits (sym c.is_deletion.ensures.deletion ∙ c.if-is_deletion.false) (key_word _ (search rules)) (fine_rest _ _ _ c.in-Some.ensures.some c.requires.members) _ c.commit-2.ensures.committed }
 
 pub returns : goal.returns
 returns t c =
-    record { committed = commit_other _ c.requires.valid _ _ _ _ (handed_first c.args.set _ _ c.in-Some.ensures.some _ _ (λ i. (c.type_inv.t i).fits) c.requires.inside _ c.read-v.ensures.value) c.requires.fits (sym c.is_deletion.ensures.deletion ∙ c.if-is_deletion.false) (key_word _ (search rules)) (fine_rest _ _ _ (handed_first c.args.set _ _ c.in-Some.ensures.some _ _ (λ i. (c.type_inv.t i).fits) c.requires.inside _ c.read-v.ensures.value) c.requires.members) _ c.commit-2.ensures.committed _ c.put_committed.ensures.put }
+    record { committed = commit_other _ c.requires.valid _ _ _ _ c.in-Some.ensures.some c.requires.fits (sym c.is_deletion.ensures.deletion ∙ c.if-is_deletion.false) (key_word _ (search rules)) (fine_rest _ _ _ c.in-Some.ensures.some c.requires.members) _ c.commit-2.ensures.committed _ c.put_committed.ensures.put }

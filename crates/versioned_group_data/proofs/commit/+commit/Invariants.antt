@@ -1,7 +1,8 @@
--- `versioned_group_data::commit::commit`: each call has a tag less.
+-- The members get fewer.
+-- Assumes nothing.
 use Rattle.std.proofs.Common.{length}
-use Rattle.request.specs.Set.{tags_of}
+use Rattle.request.specs.Members.{members_in}
 use Rattle.versioned_group_data.proofs.commit.+commit.Given as goal
 
 abbrev pub decreases-commit : goal.decreases-commit
-decreases-commit l = length (tags_of l.set.low l.set.high)
+decreases-commit l = length (members_in l.members)

@@ -2,7 +2,7 @@
 -- Assumes nothing.
 use native.Mathlib.Omega.{arith}
 use Rattle.group_slots.proofs.GroupHolding.{packed_valid}
-use Rattle.versioned_group_data.proofs.CommittedEdits.{erase_room, erase_some, erase_none}
+use Rattle.versioned_group_data.proofs.CommittedEdits.{erase_room, erase_some}
 use Rattle.versioned_group_data.proofs.commit.erase_committed.Goals as goal
 
 pub used-n-requires : goal.used-n-requires
@@ -11,13 +11,9 @@ used-n-requires c =
 
 pub close_slots-requires : goal.close_slots-requires
 close_slots-requires c =
-    let h = erase_room _ c.requires.valid _ _ _ c.find_committed.ensures.found _ c.in-Ok.is _ c.used-n.ensures.used in
+    let h = erase_room _ c.requires.valid _ _ _ c.find_committed-found.ensures.found _ c.in-Ok.is _ c.used-n.ensures.used in
     record { order = omega (arith, h.0); inside = omega (arith, h.1) }
 
 pub returns-in-Ok : goal.returns-in-Ok
 returns-in-Ok c =
-    record { erased = erase_some _ c.requires.valid _ _ _ c.find_committed.ensures.found _ c.in-Ok.is _ c.used-n.ensures.used _ c.close_slots.ensures.closed }
-
-pub returns-in-Err : goal.returns-in-Err
-returns-in-Err c =
-    record { erased = erase_none _ c.requires.valid _ _ _ c.find_committed.ensures.found _ c.in-Err.is }
+    record { erased = erase_some _ c.requires.valid _ _ _ c.find_committed-found.ensures.found _ c.in-Ok.is _ c.used-n.ensures.used _ c.close_slots.ensures.closed }

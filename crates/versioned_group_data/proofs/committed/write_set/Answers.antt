@@ -7,11 +7,11 @@ use Rattle.versioned_group_data.proofs.committed.write_set.Goals as goal
 
 pub head-requires : goal.head-requires
 head-requires c =
-    record { kind = rw c.number.ensures.number (omega arith); count = omega arith }
+    record { kind = rw c.from.ensures (omega arith); count = omega arith }
 
 pub bounds-out-1 : goal.bounds-out-1
 bounds-out-1 c = simp length-set (omega arith)
 
 pub returns : goal.returns
 returns c =
-    record { written = three_written c.args.out.now _ _ _ _ c.requires.room (rw c.number.ensures.number at c.head.ensures.head) }
+    record { written = three_written c.args.out.now _ _ _ _ c.requires.room (rw c.from.ensures at c.head.ensures.head) }

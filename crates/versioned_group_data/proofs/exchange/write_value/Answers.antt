@@ -1,7 +1,7 @@
 -- `versioned_group_data::exchange::write_value` meets its contract.
 -- Assumes nothing.
 use native.Mathlib.Omega.{arith}
-use Rattle.versioned_group_data.proofs.BaseExchanges.{slot_room, value_copied}
+use Rattle.versioned_group_data.proofs.BaseExchanges.{slot_room, value_put}
 use Rattle.versioned_group_data.proofs.exchange.write_value.Goals as goal
 
 pub overflow_mul-i : goal.overflow_mul-i
@@ -12,10 +12,10 @@ pub overflow_add-i : goal.overflow_add-i
 overflow_add-i c =
     record { fits = omega (arith, (slot_room c.args.i _ c.requires.slot).0) }
 
-pub copy_words-requires : goal.copy_words-requires
-copy_words-requires c =
-    record { target = omega (arith, (slot_room c.args.i _ c.requires.slot).1); source = c.requires.inside }
+pub write-requires : goal.write-requires
+write-requires c =
+    record { inside = omega (arith, (slot_room c.args.i _ c.requires.slot).1) }
 
 pub returns : goal.returns
 returns c =
-    record { written = value_copied _ _ _ _ _ c.requires.slot c.copy_words.ensures.copied }
+    record { written = value_put _ _ _ _ c.requires.slot c.write.ensures.written }

@@ -12,4 +12,4 @@ abbrev pub invariant-loop-j : goal.invariant-loop-j
 invariant-loop-j l =
     Readable l.key l.j (held l.s)
     × (meets_base l.key l.i (held l.s) ≡ (l.based || meets_base l.key l.j (held l.s)))
-    × (first_of l.tag (items_at l.key l.i (held l.s)) ≡ first_of l.tag (items_at l.key l.j (held l.s)))
+    × (first_of l.tag.number (items_at l.key l.i (held l.s)) ≡ first_of l.tag.number (items_at l.key l.j (held l.s)))

@@ -20,7 +20,7 @@ set_word-requires c = search rules
 
 pub loop-j-preserved : goal.loop-j-preserved
 loop-j-preserved c = (
-  mark_turn c.args.i c.loop-j.j c.args.s.now (omega arith) _ _ _ c.loop-j.invariant.0 c.loop-j.invariant.1 c.word.ensures.stored c.set_word.ensures.set,
+  mark_turn c.args.i c.loop-j.j c.args.s.now (omega arith) _ _ _ c.loop-j.invariant.0 c.loop-j.invariant.1 c.from.ensures c.set_word.ensures.set,
   search rules,
 )
 

@@ -6,15 +6,15 @@ use Rattle.types.proofs.IndexLaws.{shifted_word}
 use Rattle.versioned_group_data.proofs.UpdateReports.{write_refused, write_outside, write_done}
 use Rattle.versioned_group_data.proofs.update.write.Goals as goal
 
-pub returns-in_err-put_update : goal.returns-in_err-put_update
-returns-in_err-put_update c =
+pub returns-in_err-put : goal.returns-in_err-put
+returns-in_err-put c =
     let p = err_from_is_err_and c.from_residual.result c.from_residual.ensures.1 in
-    rw (p.1, p.2) (record { written = write_refused _ _ _ _ (shifted_word _ _ c.new-place.ensures.shifted) _ _ _ _ _ c.writes_outside-outside.ensures.outside _ _ c.put_update.ensures.recorded _ (number_refused _ _ c.in_err-put_update.was) })
+    rw (p.1, p.2) (record { written = write_refused _ _ _ _ (shifted_word _ _ c.new-place.ensures.shifted) _ _ _ c.writes_outside-outside.ensures.outside _ _ c.put.ensures.recorded _ (number_refused _ _ c.in_err-put.was) })
 
 pub returns-then-outside : goal.returns-then-outside
 returns-then-outside c =
-    record { written = write_outside _ _ _ _ (shifted_word _ _ c.new-place.ensures.shifted) _ _ _ _ _ c.writes_outside-outside.ensures.outside _ _ c.put_update.ensures.recorded (none_refused _ _ c.in_ok-put_update.was) c.if-outside.true }
+    record { written = write_outside _ _ _ _ (shifted_word _ _ c.new-place.ensures.shifted) _ _ _ c.writes_outside-outside.ensures.outside _ _ c.put.ensures.recorded (none_refused _ _ c.in_ok-put.was) c.if-outside.true }
 
-pub returns : goal.returns
-returns c =
-    record { written = write_done _ _ _ _ (shifted_word _ _ c.new-place.ensures.shifted) _ _ _ _ _ c.writes_outside-outside.ensures.outside _ _ c.put_update.ensures.recorded (none_refused _ _ c.in_ok-put_update.was) c.if-outside.false }
+pub returns-else-outside : goal.returns-else-outside
+returns-else-outside c =
+    record { written = write_done _ _ _ _ (shifted_word _ _ c.new-place.ensures.shifted) _ _ _ c.writes_outside-outside.ensures.outside _ _ c.put.ensures.recorded (none_refused _ _ c.in_ok-put.was) c.if-outside.false }

@@ -1,4 +1,4 @@
--- `versioned_group_data::update::writes_outside` meets its contract: the tags that are left decide.
+-- What is left decides.
 -- Assumes nothing.
 use mathlib.Core.Path.{◌≡◌}
 use mathlib.Core.List.{[]}
@@ -12,8 +12,8 @@ use Rattle.versioned_group_data.proofs.update.writes_outside.Given as goal
 
 abbrev pub invariant-loop-tag : goal.invariant-loop-tag
 invariant-loop-tag l =
-    outside (members_of (tags_of l.rest.low l.rest.high) []) (members_in (find l.key (word_of l.place) (groups_in l.s).updates))
-    ≡ outside (members_of (tags_of l.initial.rest.low l.initial.rest.high) []) (members_in (find l.key (word_of l.place) (groups_in l.s).updates))
+    outside (members_of (tags_of l.rest.low l.rest.high) []) (members_in (find l.key (word_of l.place) (groups_in l.store.words.now).updates))
+    ≡ outside (members_of (tags_of l.fn.set.low l.fn.set.high) []) (members_in (find l.key (word_of l.place) (groups_in l.store.words.now).updates))
 
 abbrev pub decreases-loop-tag : goal.decreases-loop-tag
 decreases-loop-tag l = length (tags_of l.rest.low l.rest.high)
