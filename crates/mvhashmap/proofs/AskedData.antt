@@ -1,9 +1,9 @@
 -- A request for the data store that 1 to 4 do not refuse: the work that it asks for and the words that it has, kind by kind.
 -- Assumes nothing.
-use mathlib.Core.Path.{◌≡◌, refl, sym, ap, ◌∙◌}
+use mathlib.Core.Path.{◌≡◌, sym, ap, ◌∙◌}
 use mathlib.Core.Bool.{Bool, true, ◌&&◌}
 use mathlib.Core.List.{List}
-use Prim.Native.Nat.{ℕ, zero, suc, ◌+◌, ◌*◌, ◌≤◌, ◌<◌}
+use Prim.Native.Nat.{ℕ, zero, suc, ◌+◌, ◌≤◌, ◌<◌}
 use native.Mathlib.Omega.{arith}
 use lib.Dec.{eqb}
 use lib.ListN.{length, get_or, take, drop}
@@ -12,7 +12,7 @@ use Rattle.lists.proofs.Bools.{and_left, and_right}
 use Rattle.delta.specs.Delta.{delta_width, delta_at, delta_ok}
 use Rattle.types.specs.Index.{index_bound, materialize_bound}
 use Rattle.types.specs.Value.{value_at, value_width, value_ok, is_exchanged}
-use Rattle.request.specs.Table.{number_of, row, table, row_of, key_place, index_place, incarnation_place}
+use Rattle.request.specs.Table.{key_place, index_place, incarnation_place}
 use Rattle.request.specs.Request.{request_of}
 use Rattle.request.proofs.DataFields as Fields
 use Rattle.model.specs.Data as Rule

@@ -137,7 +137,32 @@ module _ (t : List ℕ) (f : Request) (a : Asked t f) where
       and_right (is_word key) (fine_members 0 (members_of (tags_of set.low set.high) (drop values t)))
       (sym (ap fine_request (means ∙ ap (meaning_in t) e)) ∙ fine)
 
--- No request for the group store is of a kind of the data store.
-module _ (f : Request) (g : is_data (number_of (kind_asked f)) ≡ false) where
-  no_data : (x : Request) → f ≡ x → is_data (number_of (kind_asked x)) ≡ true → ⊥
-  no_data x e d = never (sym d ∙ ap (λ (r : Request). is_data (number_of (kind_asked r))) (sym e) ∙ g)
+-- A request for the group store is of one of its kinds.
+pub group_kinds : (f : Request) → is_data (number_of (kind_asked f)) ≡ false
+    → ((key : ℕ) → f ≡ Code.LastCommitted key → ⊥)
+    → ((key : ℕ) (set : Set) (values : ℕ) → f ≡ Code.GroupBase key set values → ⊥)
+    → ((key tag value : ℕ) → f ≡ Code.Exchange key tag value → ⊥)
+    → ((key index incarnation : ℕ) (set : Set) (values : ℕ) → f ≡ Code.GroupWrite key index incarnation set values → ⊥)
+    → ((key index : ℕ) → f ≡ Code.GroupEstimate key index → ⊥)
+    → ((key index : ℕ) → f ≡ Code.GroupRemove key index → ⊥)
+    → ((key tag index : ℕ) → f ≡ Code.GroupFetch key tag index → ⊥)
+    → ((key index : ℕ) → f ≡ Code.GroupSize key index → ⊥)
+    → ((key index : ℕ) → f ≡ Code.Finalize key index → ⊥)
+    → ⊥
+unfolding is_data kind_asked
+group_kinds (Code.LastCommitted key) g a b c d e x y z l = a key refl
+group_kinds (Code.Base key value) g a b c d e x y z l = never g
+group_kinds (Code.Write key index incarnation value) g a b c d e x y z l = never g
+group_kinds (Code.AddDelta key index delta) g a b c d e x y z l = never g
+group_kinds (Code.Estimate key index) g a b c d e x y z l = never g
+group_kinds (Code.Remove key index) g a b c d e x y z l = never g
+group_kinds (Code.Fetch key index) g a b c d e x y z l = never g
+group_kinds (Code.Materialize key index) g a b c d e x y z l = never g
+group_kinds (Code.GroupBase key set values) g a b c d e x y z l = b key set values refl
+group_kinds (Code.Exchange key tag value) g a b c d e x y z l = c key tag value refl
+group_kinds (Code.GroupWrite key index incarnation set values) g a b c d e x y z l = d key index incarnation set values refl
+group_kinds (Code.GroupEstimate key index) g a b c d e x y z l = e key index refl
+group_kinds (Code.GroupRemove key index) g a b c d e x y z l = x key index refl
+group_kinds (Code.GroupFetch key tag index) g a b c d e x y z l = y key tag index refl
+group_kinds (Code.GroupSize key index) g a b c d e x y z l = z key index refl
+group_kinds (Code.Finalize key index) g a b c d e x y z l = l key index refl

@@ -12,10 +12,7 @@ use types::refusal::Refusal;
 fn number_of(called: Result<(), Refusal>) -> u32
     ensures number { result ≡ result_number called }
 {
-    match called {
-        Ok(()) => 0,
-        Err(refusal) => u32::from(refusal),
-    }
+    called.map_or_else(u32::from, |()| 0)
 }
 
 // A call over any words.

@@ -1,7 +1,6 @@
 -- `mvhashmap::answer::put_versioned` meets its contract.
 -- Assumes nothing.
 use Rattle.mvhashmap.proofs.AnswerPuts.{versioned_at_base, versioned_at_index}
-use lib.ListN.{length-set}
 use native.Mathlib.Omega.{arith}
 use Rattle.mvhashmap.proofs.answer.put_versioned.Goals as goal
 

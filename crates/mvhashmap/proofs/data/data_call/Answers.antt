@@ -17,6 +17,12 @@ bounds-t-2 c = omega (arith, words_inside _ _ c.requires.asked c.requires.some c
 pub bounds-t-3 : goal.bounds-t-3
 bounds-t-3 c = omega (arith, write_inside _ (asked_as _ _ _ c.in-Write.is c.requires.asked))
 
+pub slice_bounds-write-count : goal.slice_bounds-write-count
+slice_bounds-write-count c = omega (arith, write_inside _ (asked_as _ _ _ c.in-Write.is c.requires.asked))
+
+pub slice_bounds-write-start : goal.slice_bounds-write-start
+slice_bounds-write-start c = omega (arith, write_inside _ (asked_as _ _ _ c.in-Write.is c.requires.asked))
+
 pub write-requires : goal.write-requires
 write-requires c =
     let a = asked_as _ _ _ c.in-Write.is c.requires.asked in

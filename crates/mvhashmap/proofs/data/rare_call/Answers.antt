@@ -14,6 +14,12 @@ use Rattle.mvhashmap.proofs.data.rare_call.Goals as goal
 pub bounds-t-1 : goal.bounds-t-1
 bounds-t-1 c = omega (arith, words_inside _ _ c.requires.asked c.requires.some c.requires.«data»)
 
+pub slice_bounds-set_base_value-count : goal.slice_bounds-set_base_value-count
+slice_bounds-set_base_value-count c = omega (arith, words_inside _ _ c.requires.asked c.requires.some c.requires.«data»)
+
+pub slice_bounds-set_base_value-start : goal.slice_bounds-set_base_value-start
+slice_bounds-set_base_value-start c = omega (arith, words_inside _ _ c.requires.asked c.requires.some c.requires.«data»)
+
 pub set_base_value-requires : goal.set_base_value-requires
 set_base_value-requires c =
     let a = asked_as _ _ _ c.in-Base.is c.requires.asked in
@@ -31,6 +37,12 @@ bounds-t-1-in-AddDelta c = omega (arith, words_inside _ _ c.requires.asked c.req
 
 pub bounds-t-2 : goal.bounds-t-2
 bounds-t-2 c = omega (arith, words_inside _ _ c.requires.asked c.requires.some c.requires.«data»)
+
+pub slice_bounds-add_delta-count : goal.slice_bounds-add_delta-count
+slice_bounds-add_delta-count c = omega (arith, words_inside _ _ c.requires.asked c.requires.some c.requires.«data»)
+
+pub slice_bounds-add_delta-start : goal.slice_bounds-add_delta-start
+slice_bounds-add_delta-start c = omega (arith, words_inside _ _ c.requires.asked c.requires.some c.requires.«data»)
 
 pub add_delta-requires : goal.add_delta-requires
 add_delta-requires c =
