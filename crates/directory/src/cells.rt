@@ -22,8 +22,7 @@ pub struct CellWords {
     pub word: u32,
 }
 
-// Kept: the words, `base` and n, and that they are a directory, as parameters and a clause. A struct with that fact over lent words would be taken
-// apart at each write of a word, so it could serve the search alone; base and n as a struct would only lengthen each clause.
+// Kept: words, base and n as parameters and what is known of them (`directory`, `wide`, `many`, `few`, `free`, `inside`) as clauses, here and in edits and shifts: tried a struct over the lent words with the ghost fact that they are a directory, and the check asks for it after each call that writes, so it stays open between `close_cell` and `close_page`, where they are none.
 
 // A cell put into a page with room, at a place.
 pub fn open_cell(s: &mut [u32], base: usize, room: usize, at: Place, new: CellWords)

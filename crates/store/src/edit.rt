@@ -12,7 +12,7 @@ use directory::cells::{CellWords, Place, set_word};
 use directory::edits::{put_cell, take_cell};
 use moves::copy_within;
 
-// Kept: words and units as parameters, and `Valid` as a clause. A view that carries the rule, as `Rows`, would be taken apart at each write of a word.
+// Kept: words and units as parameters and `valid`, `there` as clauses: tried in `directory` a struct over the lent words with the ghost fact, which is asked for after each call that writes; between `set_word`, `copy_within`, `drop_payload` and `take_cell` the words are no store, so it stays open.
 
 // The marks of a row, which keep its part. Contents stay where they are, and so does every word but the third of the row's cell.
 pub fn set_marks<const WIDTH: usize, const PARTS: usize>(

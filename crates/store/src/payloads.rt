@@ -44,6 +44,7 @@ pub fn owner_of<const WIDTH: usize, const PARTS: usize>(s: &[u32], n: usize, l: 
 {
     let rows: Rows<WIDTH, PARTS> = Rows { words: s, units: n };
     let y = pair(s, 6 + WIDTH * (l as usize));
+    // Kept: a loop over `next`, here and in the scan of rows: as an `Iterator` it would be a struct of the view and a place with a ghost fact of its own, more than both loops, and the proof of a `for` would speak of the places that came and not of this one.
     let mut at = rows.cell_after(rows.find_place(y));
     while let Some(p) = at {
         if rows.number_at(p) == l {

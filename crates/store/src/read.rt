@@ -10,7 +10,7 @@ use directory::search;
 use probe::{key_of, pair, place_of};
 
 // The words of a store. `WIDTH`: the words of a payload; `PARTS`: 1 where the first word of its content is a part, and a spot may have several rows.
-// Kept: `PARTS` is a number, since a struct with a ghost field can have no `bool` as a const parameter (the check says so).
+// Kept: `PARTS` is a number: tried `bool`, and the check "cannot state an item with a signed or `bool` const parameter beside a ghost field".
 #[derive(Clone, Copy)]
 pub struct Rows<'a, const WIDTH: usize, const PARTS: usize> {
     pub words: &'a [u32],
@@ -26,6 +26,8 @@ impl<'a, const WIDTH: usize, const PARTS: usize> Rows<'a, WIDTH, PARTS> {
     {
         search::word(self.words, 0)
     }
+
+    // Kept: three methods that hand on to `search`: each says of rows what that says of cells, and without them each caller would carry base and units, and the clauses of cells.
 
     // The place after all rows whose spots are above y and before all others.
     #[inline]

@@ -12,6 +12,8 @@ use moves::all_zero;
 use probe::pair;
 use types::units::units;
 
+// Kept: `inside`, `wide`, `payloads`, `size`, `space` and `pages` as clauses down the scan: they are what its tests so far have told of words that are no store yet, so there is no type that they could be facts of.
+
 // The most pages of a directory of n units.
 fn most_pages(n: usize) -> usize
     ensures most { result ≡ most_pages n }

@@ -7,7 +7,7 @@ use mathlib.Core.Option.{Option, none, some}
 use Prim.Native.Nat.{ℕ, suc, ◌+◌, ◌*◌, ◌/◌, ◌%◌, ◌≤◌, ◌<◌}
 use native.Mathlib.Omega.{arith}
 use lib.Dec.{ltb}
-use lib.ListN.{length, get_or, set, take, drop, length-drop, length-append}
+use lib.ListN.{length, get_or, set, take, length-append}
 use lib.Seq.{ext_get_or, length-take-le}
 use borrow.Author.Tests.{eq-eqb, ne_eqb}
 use Rattle.number.specs.Words.{AreWords, digits}

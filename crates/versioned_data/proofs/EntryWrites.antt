@@ -11,7 +11,7 @@ use Rattle.std.proofs.lemmas.List.Edits.{sets-eq}
 use native.Mathlib.Decide.{dec_lt}
 use native.Mathlib.Numerals.{add-one}
 use lib.ListN.{length, get_or, set, take, drop, length-append, get_or-eq_default}
-use lib.Seq.{sets, length-sets, take-take, length-take-le, get_or-take, get_or-drop}
+use lib.Seq.{sets, take-take, length-take-le, get_or-take}
 use Rattle.number.specs.Words.{AreWords, digits}
 use Rattle.number.proofs.Digits.{words_take, length_digits}
 use Rattle.delta.specs.Delta.{delta_width, delta_at, delta_ok, delta_words, sign_word, signed, minus_at, number_at}

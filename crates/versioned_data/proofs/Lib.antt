@@ -1,4 +1,3 @@
-pub mod BaseTests
 pub mod EntryRows
 pub mod RowOrder
 pub mod SpotPlaces

@@ -15,13 +15,10 @@ use borrow.Author.Tests.{ltb-true, lt-ltb}
 use Rattle.lists.specs.Lists.{every}
 use Rattle.lists.proofs.Bools.{and_both, and_left, and_right}
 use Rattle.lists.proofs.Lists.{every_imp, every_take, every_drop, every_join}
-use Rattle.number.specs.Words.{AreWords}
 use Rattle.delta.specs.Delta.{delta_width}
 use Rattle.types.specs.Refusal.{units_exhausted}
 use Rattle.types.specs.Units.{lack_of, units_in}
 use Rattle.types.proofs.UnitLaws.{lack_some}
-use Rattle.types.specs.Value.{value_at, value_width}
-use Rattle.types.proofs.ValueLaws.{length_value_at}
 use Rattle.probe.specs.Cells.{count_above, insert_at}
 use Rattle.numbers.specs.Numbers.{Below, Drops, row_rank}
 use Rattle.store.specs.Held.{held, position_of, content_of, row_spots, no_row}
@@ -32,7 +29,7 @@ use Rattle.store.proofs.Contents.{base_in, content_in, content_word}
 use Rattle.store.proofs.Listed.{insert_length, insert_here}
 use Rattle.store.proofs.Reading.{place_held}
 use Rattle.model.specs.Rows.{find, row_at}
-use Rattle.model.specs.Data.{write, Entry, done}
+use Rattle.model.specs.Data.{Entry}
 use Rattle.versioned_data.specs.Layout.{StoreRow, spot_of, marks_of, body_of, padded, row_of, entry_of, rows_in, row_ok, data_valid}
 use Rattle.versioned_data.specs.Found.{position_at, Gone, PutIn, lack_of_more}
 use Rattle.versioned_data.proofs.EntryRows.{ok_few}

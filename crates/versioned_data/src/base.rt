@@ -2,7 +2,7 @@
 ghost use Rattle.std.specs.Prelude.{◌≡◌};
 ghost use Rattle.types.specs.ValueWithLayout.{words_of};
 ghost use Rattle.model.specs.Data.{same_exchanged};
-ghost use Rattle.versioned_data.specs.Base.{kept_if, over_base};
+ghost use Rattle.versioned_data.specs.Base.{over_base};
 
 use types::value::ValueWithLayout;
 
@@ -16,40 +16,30 @@ pub enum Base {
     Differs,
 }
 
-fn kept(same: bool) -> Base
-    ensures kept { result ≡ kept_if same }
+// With a layout, identifiers may have been exchanged since, and the bytes may differ.
+#[tactic(auto, unfolding(model::specs::Data::same_exchanged))]
+fn same_exchanged(v: ValueWithLayout, w: ValueWithLayout) -> bool
+    ensures same { result ≡ same_exchanged (words_of v) (words_of w) }
 {
+    match (v.has_layout(), w.has_layout()) {
+        (false, false) => v.same_bytes(w),
+        (x, y) => x == y,
+    }
+}
+
+// Exchanged holds more than raw: it replaces raw, and raw does nothing to it.
+#[tactic(auto, unfolding(crate::specs::Base::over_base, crate::specs::Base::kept_if))]
+pub fn over_base(value: ValueWithLayout, existing: ValueWithLayout) -> Base
+    ensures base { result ≡ over_base (words_of value) (words_of existing) }
+{
+    let same = match (value.is_exchanged(), existing.is_exchanged()) {
+        (true, true) => same_exchanged(value, existing),
+        (true, false) => return Base::Set,
+        (false, true) => return Base::Keep,
+        (false, false) => value.same_bytes(existing),
+    };
     if same {
         return Base::Keep;
     }
     Base::Differs
-}
-
-// With a layout, identifiers may have been exchanged since, and the bytes may differ.
-fn same_exchanged(v: ValueWithLayout, w: ValueWithLayout) -> bool
-    ensures same { result ≡ same_exchanged (words_of v) (words_of w) }
-{
-    if v.has_layout() {
-        return w.has_layout();
-    }
-    if w.has_layout() {
-        return false;
-    }
-    v.same_bytes(w)
-}
-
-// Exchanged holds more than raw: it replaces raw, and raw does nothing to it.
-pub fn over_base(value: ValueWithLayout, existing: ValueWithLayout) -> Base
-    ensures base { result ≡ over_base (words_of value) (words_of existing) }
-{
-    if value.is_exchanged() {
-        if existing.is_exchanged() {
-            return kept(same_exchanged(value, existing));
-        }
-        return Base::Set;
-    }
-    if existing.is_exchanged() {
-        return Base::Keep;
-    }
-    kept(value.same_bytes(existing))
 }

@@ -23,6 +23,8 @@ use types::refusal::Refusal;
 use types::units::units;
 use types::value::ValueWithLayout;
 
+// Kept: `valid` and `served` as clauses, here, in fetch and in materialize: a store that is edited is as `store::edit` says; a type for an index below the bound would be made once for each kind of request, with the clause as its proof, and read once.
+
 // Whether a write of this incarnation may go where it was looked for: over a write only if it is higher.
 fn may_write(s: &[u32], found: Result<Place, Place>, incarnation: u32) -> bool
     requires valid { data_valid s.now ≡ true }

@@ -83,7 +83,7 @@ fn content_ok(s: &[u32], b: usize, place: u32, marks: Marks) -> bool
 }
 
 // Whether a row is that of a fine entry.
-// Kept: words and units as two parameters here, since a view over the words does not tell the proof that each of them is below 2^32.
+// Kept: words and units as two parameters, and `valid` as a clause: tried the view `DataRows`; of a slice in a struct the check tells its length alone, so that each word is below 2^32 stayed open.
 fn row_ok(s: &[u32], n: usize, at: Place) -> bool
     requires valid { Valid payload_width false n s.now }
     requires there { There payload_width n s.now at.page at.cell }

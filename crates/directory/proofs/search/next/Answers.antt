@@ -3,10 +3,6 @@
 use Rattle.directory.proofs.Positions.{position_after, stands_after, after_next}
 use Rattle.directory.proofs.search.next.Goals as goal
 
-pub cell_after-requires : goal.cell_after-requires
-cell_after-requires c =
-    record { directory = c.requires.directory; stands = stands_after _ _ _ _ c.requires.there }
-
 pub returns : goal.returns
 returns c =
     let r = after_next c.args.base c.args.s.now c.args.at.page c.args.at.cell _ (c.cell_after.ensures.there, (c.cell_after.ensures.place, c.cell_after.ensures.some)) in

@@ -4,10 +4,6 @@ use native.Mathlib.Omega.{arith}
 use Rattle.directory.proofs.Rooms.{split_ready, room_first, room_second}
 use Rattle.directory.proofs.shifts.make_room.Goals as goal
 
-pub free_page-j-requires : goal.free_page-j-requires
-free_page-j-requires c =
-    record { directory = c.requires.directory; many = c.requires.many; free = c.requires.free; inside = c.requires.inside; page = c.requires.page }
-
 pub split-requires : goal.split-requires
 split-requires c =
     let r = split_ready _ _ _ _ 0 _ _ c.free_page-j.ensures.freed c.requires.many c.requires.few (omega arith) in

@@ -1,7 +1,6 @@
 -- `versioned_data::put::put_in` meets its contract.
 -- Assumes nothing.
 use mathlib.Core.Path.{refl, sym, ap, ◌∙◌}
-use native.Mathlib.Omega.{arith}
 use borrow.Author.Rules.{rules}
 use Rattle.std.specs.Prelude.{Result}
 use Rattle.types.specs.Refusal.{result_number}

@@ -1,6 +1,6 @@
 -- `versioned_data::walk::Entries::past` meets its contract.
 -- Assumes nothing.
-use mathlib.Core.Path.{refl, ap, ◌∙◌}
+use mathlib.Core.Path.{ap, ◌∙◌}
 use Prim.Native.Nat.{ℕ, ◌%◌}
 use Rattle.delta.specs.Delta.{Delta, accumulate}
 use Rattle.delta.specs.Op.{exactly, accumulator_of}
