@@ -14,7 +14,7 @@ returns-in-Ok g c =
 
 pub returns-in-Err : goal.returns-in-Err
 returns-in-Err g c =
-    let number : result_number c.args.called ≡ c.number.result = rw c.in-Err.is (sym c.number.ensures.number) in
+    let number : result_number c.args.called ≡ c.from.result = rw c.in-Err.is (sym c.from.ensures) in
     record {
       puts = refused_put c.args.answer.now c.args.self.now c.put_refusal.new.self (result_number c.args.called)
           (rw c.in-Err.is (refusal_two_digits c.in-Err.refusal).some) (rw number c.put_refusal.ensures.puts);
