@@ -9,7 +9,7 @@ use crate::cells::Place;
 use probe::count;
 
 // A word as an index.
-// Kept: `s[at] as usize` says the same, but each of its thirty uses, most of them within larger terms, would then carry the bound of a word in its proof.
+// Kept: `s[at] as usize` says the same, but each of its two dozen uses would then carry the bound of a word in its proof.
 pub fn word(s: &[u32], at: usize) -> usize
     requires inside { at < length s.now }
     ensures same { result ≡ get_or s.now at 0 }
