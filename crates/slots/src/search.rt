@@ -6,6 +6,7 @@ ghost use Rattle.slots.specs.Found.{found_at};
 
 use crate::slot::{Place, is_used, slots_of, stands_at, stands_before};
 
+// Kept: `packed` as a clause of these three, since most callers edit the words next: a view over them would be made for the one call.
 // How many slots in use stand before a place: the index of the slot at that place, or where it is to be inserted.
 pub fn lower_bound(s: &[u32], at: Place) -> usize
     requires packed { packed s.now ≡ true }

@@ -15,6 +15,7 @@ use types::response::{AnswerKind, SET_WIDTH, head};
 use types::value::VALUE_WIDTH;
 
 // The first words of an answer of kind 9: the head, with the count of words for n values, and the set.
+#[tactic(auto, using(crate::proofs::CollectedGroups::three_written))]
 fn write_set(out: &mut [u32], n: usize, set: Set)
     requires room { 3 ≤ length out.old }
     requires few { n ≤ most_tags }
@@ -29,6 +30,7 @@ fn write_set(out: &mut [u32], n: usize, set: Set)
 }
 
 // The set and the values that are committed of a key, as an answer.
+#[tactic(auto, using(crate::proofs::CollectedGroups::key_rises, crate::proofs::CollectedGroups::key_few, crate::proofs::CollectedGroups::key_inside_all, crate::proofs::CollectedGroups::key_from, crate::proofs::CollectedGroups::key_bits_fit, crate::proofs::CollectedGroups::key_answer, crate::proofs::CollectedGroups::three_room, group_slots::proofs::GroupHolding::packed_valid))]
 pub fn get_last_committed_group(s: &[u32], key: u32, out: &mut [u32])
     requires valid { group_valid s.now ≡ true }
     requires room { answer_width ≤ length out.old }

@@ -18,6 +18,7 @@ use types::refusal::Refusal;
 use types::value::ValueWithLayout;
 
 // Whether the value of slot i is `Exchanged`.
+#[tactic(auto, using(crate::proofs::BaseExchanges::slot_room, crate::proofs::BaseExchanges::read_exchanged))]
 fn is_exchanged(s: &[u32], i: usize) -> bool
     requires inside { i < units_in (length s.now) }
     ensures exchanged { result ≡ is_exchanged (value_at (slot_width * i + 7) s.now) }
@@ -26,6 +27,7 @@ fn is_exchanged(s: &[u32], i: usize) -> bool
 }
 
 // The value of slot i replaced.
+#[tactic(auto, using(crate::proofs::BaseExchanges::slot_room, crate::proofs::BaseExchanges::value_put))]
 fn write_value(s: &mut [u32], i: usize, v: ValueWithLayout)
     requires slot { i < units_in (length s.old) }
     ensures written { s.new ≡ written i (with_value (words_of v) (slot_at i s.old)) s.old }
@@ -35,6 +37,7 @@ fn write_value(s: &mut [u32], i: usize, v: ValueWithLayout)
 
 // The base and the committed value are exchanged together. `NothingThere` stands for the Rust's panic at a base that is not there, `NothingToExchange`
 // for that at a committed value that is not raw.
+#[tactic(auto, using(crate::proofs::BaseExchanges::base_found, crate::proofs::BaseExchanges::committed_told, crate::proofs::BaseExchanges::base_inside, crate::proofs::BaseExchanges::value_inside, crate::proofs::BaseExchanges::base_length, crate::proofs::BaseExchanges::words_wide, crate::proofs::BaseExchanges::inside_as, crate::proofs::BaseExchanges::exchange_absent, crate::proofs::BaseExchanges::exchange_before, crate::proofs::BaseExchanges::exchange_none, crate::proofs::BaseExchanges::exchange_over, crate::proofs::BaseExchanges::exchange_done))]
 pub fn update_tagged_base_value_with_layout(
     s: &mut [u32],
     key: u32,

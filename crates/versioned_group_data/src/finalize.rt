@@ -19,6 +19,7 @@ use types::response::MOST_TAGS;
 use types::value::VALUE_WIDTH;
 
 // Commits the update of a transaction.
+#[tactic(auto, using(crate::proofs::GroupFinalizing::update_at, crate::proofs::GroupFinalizing::run_none, crate::proofs::GroupFinalizing::run_low, crate::proofs::GroupFinalizing::tried_members, crate::proofs::GroupFinalizing::ruled_absent, crate::proofs::GroupFinalizing::ruled_tried, crate::proofs::CollectedGroups::members_inside, crate::proofs::CollectedGroups::members_from, crate::proofs::CollectedGroups::members_bits_fit, crate::proofs::CollectedGroups::members_count, crate::proofs::CollectedGroups::members_fine, crate::proofs::CollectedGroups::set_length, crate::proofs::CollectedGroups::members_back, crate::proofs::CommitSteps::key_word))]
 fn commit_update(s: &mut [u32], key: u32, txn_idx: TxnIndex) -> Result<(), Refusal>
     requires valid { group_valid s.old ≡ true }
     requires served { txn_idx < index_bound }
@@ -41,6 +42,7 @@ fn commit_update(s: &mut [u32], key: u32, txn_idx: TxnIndex) -> Result<(), Refus
 }
 
 // Commits the update of a transaction and answers the committed group. `NothingThere` stands for the Rust's error at an update that is not there.
+#[tactic(auto, using(crate::proofs::CommitSteps::key_word, crate::proofs::GroupFinalizing::answered_none, crate::proofs::GroupFinalizing::finalized_valid, crate::proofs::GroupFinalizing::finalized_answered, crate::proofs::Results::refusal_some, crate::proofs::Results::none_refused))]
 pub fn finalize_group(
     s: &mut [u32],
     key: u32,

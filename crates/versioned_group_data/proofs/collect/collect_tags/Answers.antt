@@ -2,16 +2,11 @@
 -- Assumes nothing.
 use native.Mathlib.Omega.{arith}
 use mathlib.Core.Path.{refl}
-use Prim.Native.Nat.{◌+◌, ◌*◌}
-use native.Mathlib.Nat.{zero-add, add-zero, sub-zero}
-use lib.ListN.{length, drop}
+use Prim.Native.Nat.{◌+◌}
+use lib.ListN.{length}
 use Rattle.slots.proofs.StoreWords.{slot_inside}
-use Rattle.slots.specs.Slots.{slot_width}
-use Rattle.versioned_group_data.proofs.CollectedTurns.{few, from_word, bit_low, bit_fits, bit_again, tags_none}
+use Rattle.versioned_group_data.proofs.CollectedTurns.{few, bit_low, bit_fits, bit_again}
 use Rattle.versioned_group_data.proofs.collect.collect_tags.Goals as goal
-
-pub loop-k-init : goal.loop-k-init
-loop-k-init c = simp (zero-add, add-zero, sub-zero)
 
 pub overflow_add-bits : goal.overflow_add-bits
 overflow_add-bits c = record { fits = omega (arith, few _ _ c.loop-k.k _ c.requires.inside (omega arith), c.requires.within) }
@@ -28,10 +23,6 @@ offset_bounds-s-i c = let h = slot_inside (c.args.i + c.loop-k.k) (length c.args
 pub bounds-s-i : goal.bounds-s-i
 bounds-s-i c = let h = slot_inside (c.args.i + c.loop-k.k) (length c.args.s.now) (omega arith) in omega (arith, h, few _ _ c.loop-k.k _ c.requires.inside (omega arith))
 
-pub overflow_sub-bits : goal.overflow_sub-bits
-overflow_sub-bits c =
-    from_word c.args.s.now c.args.i c.args.n c.args.j c.args.less c.requires.within c.loop-k.k _ c.requires.from (omega arith) refl
-
 pub overflow_shl-bits : goal.overflow_shl-bits
 overflow_shl-bits c =
     bit_low c.args.s.now c.args.i c.args.n c.args.j c.args.less c.loop-k.bits c.loop-k.k _ c.requires.within (omega arith) refl c.loop-k.invariant c.requires.fits
@@ -43,7 +34,3 @@ overflow_add-bits-in-loop-k-2 c =
 pub loop-k-preserved : goal.loop-k-preserved
 loop-k-preserved c =
     bit_again c.args.s.now c.args.i c.args.n c.args.j c.args.less c.loop-k.bits c.loop-k.k _ c.requires.within (omega arith) refl c.loop-k.invariant c.requires.fits
-
-pub returns : goal.returns
-returns c =
-    record { bits = omega (arith, c.loop-k.invariant, tags_none c.args.j c.args.less c.args.n c.loop-k.k (drop (slot_width * (c.args.i + c.loop-k.k)) c.args.s.now) (omega arith)) }

@@ -2,17 +2,14 @@
 -- Assumes nothing.
 use borrow.Author.Rules.{rules}
 use native.Mathlib.Omega.{arith}
-use mathlib.Core.Path.{refl, ◌∙◌}
+use mathlib.Core.Path.{◌∙◌}
 use Prim.Native.Nat.{◌+◌, ◌*◌}
 use Rattle.types.specs.Value.{value_width}
 use Rattle.slots.specs.Slots.{slot_width}
 use lib.ListN.{length}
 use Rattle.slots.proofs.StoreWords.{slot_inside}
-use Rattle.versioned_group_data.proofs.CollectedTurns.{few, value_copied, values_none, values_again, values_all}
+use Rattle.versioned_group_data.proofs.CollectedTurns.{few, value_copied, values_again, values_all}
 use Rattle.versioned_group_data.proofs.collect.collect_values.Goals as goal
-
-pub loop-k-init : goal.loop-k-init
-loop-k-init c = (values_none _ _ _ _, refl)
 
 pub overflow_add-from : goal.overflow_add-from
 overflow_add-from c = record { fits = omega (arith, few _ _ c.loop-k.k _ c.requires.inside (omega arith)) }

@@ -4,12 +4,8 @@ use borrow.Author.Rules.{rules}
 use native.Mathlib.Omega.{arith}
 use mathlib.Core.Path.{sym, ap, ◌∙◌}
 use lib.ListN.{length}
-use Rattle.versioned_group_data.proofs.CommitSteps.{fine_rest, key_word, commit_none, valid_erased, fits_erased, commit_deletion, fits_rest, valid_rest, fits_put, commit_other}
+use Rattle.versioned_group_data.proofs.CommitSteps.{fine_rest, key_word, valid_erased, fits_erased, commit_deletion, fits_rest, valid_rest, fits_put, commit_other}
 use Rattle.versioned_group_data.proofs.commit.+commit.Goals as goal
-
-pub returns-in_default : goal.returns-in_default
-returns-in_default t c =
-    record { committed = commit_none _ c.requires.valid _ _ c.in_default.ensures.none }
 
 pub commit-requires : goal.commit-requires
 commit-requires t c =

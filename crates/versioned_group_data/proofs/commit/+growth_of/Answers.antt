@@ -1,29 +1,16 @@
 -- `versioned_group_data::commit::growth_of` meets its contract.
 -- Assumes nothing.
 use Rattle.std.proofs.lemmas.Result.{err_from_is_err_and}
-use Rattle.std.proofs.Common.{arith, ap, length}
-use Rattle.versioned_group_data.proofs.MembersHanded.{handed_rest}
-use Rattle.versioned_group_data.proofs.CommitSteps.{growth_none, growth_stop, growth_refused, growth_few, growth_more}
+use Rattle.versioned_group_data.proofs.CommitSteps.{growth_stop, growth_refused, growth_more}
 use Rattle.versioned_group_data.proofs.commit.+growth_of.Goals as goal
-
-pub returns-in_default : goal.returns-in_default
-returns-in_default t c = record { growth = growth_none _ _ _ c.in_default.ensures.none }
 
 pub returns-then-not-passes : goal.returns-then-not-passes
 returns-then-not-passes t c = record { growth = growth_stop _ _ _ _ _ c.in-Some.ensures.some _ c.passes.ensures.rule c.if-not-passes.true }
-
-pub growth_of-requires : goal.growth_of-requires
-growth_of-requires t c = omega (arith, ap length c.in-Some.ensures.some, c.decreases)
 
 pub returns-in_err-rest : goal.returns-in_err-rest
 returns-in_err-rest t c =
     let p = err_from_is_err_and c.from_residual.result c.from_residual.ensures.1 in
     rw (p.1, p.2) (record { growth = growth_refused _ _ _ _ _ c.in-Some.ensures.some _ c.passes.ensures.rule c.if-not-passes.false _ c.growth_of.ensures.growth _ c.in_err-rest.was })
-
-pub with-requires : goal.with-requires
-with-requires t c =
-    let few = growth_few _ _ _ _ c.growth_of.ensures.growth (handed_rest _ _ c.args.members c.in-Some.ensures.some) _ c.in_ok-rest.was in
-    record { creations = few.0; deletions = few.1 }
 
 pub returns : goal.returns
 returns t c =

@@ -1,13 +1,8 @@
 -- `versioned_group_data::commit::erase_committed` meets its contract.
 -- Assumes nothing.
 use native.Mathlib.Omega.{arith}
-use Rattle.group_slots.proofs.GroupHolding.{packed_valid}
 use Rattle.versioned_group_data.proofs.CommittedEdits.{erase_room, erase_some}
 use Rattle.versioned_group_data.proofs.commit.erase_committed.Goals as goal
-
-pub used-n-requires : goal.used-n-requires
-used-n-requires c =
-    record { packed = packed_valid _ c.requires.valid }
 
 pub close_slots-requires : goal.close_slots-requires
 close_slots-requires c =

@@ -2,32 +2,16 @@
 -- Assumes nothing.
 use mathlib.Core.Path.{refl, ◌∙◌}
 use Rattle.std.proofs.lemmas.Result.{err_from_is_err_and}
-use native.Mathlib.Omega.{arith}
 use lib.ListN.{length}
 use Rattle.types.specs.Units.{units_in}
-use Rattle.versioned_group_data.proofs.CommitTried.{growth_small, deletions_few, tried_refused, tried_full, tried_fits, tried_done}
+use Rattle.versioned_group_data.proofs.CommitTried.{deletions_few, tried_refused, tried_full, tried_done}
 use Rattle.versioned_group_data.proofs.Results.{refusal_some, none_refused, number_refused}
-use Rattle.group_slots.proofs.GroupHolding.{packed_valid}
-use Rattle.slots.proofs.StoreEncoding.{held_fits}
-use Rattle.slots.proofs.StoreWords.{slots_few}
 use Rattle.versioned_group_data.proofs.commit.try_commit.Goals as goal
 
 pub returns-in_err-growth : goal.returns-in_err-growth
 returns-in_err-growth c =
     let p = err_from_is_err_and c.from_residual.result c.from_residual.ensures.1 in
     rw (p.1, p.2) (record { tried = tried_refused _ c.requires.valid _ _ c.requires.members _ _ c.growth_of.ensures.growth _ c.in_err-growth.was })
-
-pub used-requires : goal.used-requires
-used-requires c =
-    record { packed = packed_valid _ c.requires.valid }
-
-pub overflow_add-held : goal.overflow_add-held
-overflow_add-held c =
-    record { fits = omega (arith, (growth_small _ c.requires.valid _ _ c.requires.members c.args.more _ c.growth_of.ensures.growth _ c.in_ok-growth.was).0, slots_few (length c.args.s.now), held_fits c.args.s.now, c.used.ensures.used) }
-
-pub overflow_add-held-2 : goal.overflow_add-held-2
-overflow_add-held-2 c =
-    record { fits = omega (arith, (growth_small _ c.requires.valid _ _ c.requires.members c.args.more _ c.growth_of.ensures.growth _ c.in_ok-growth.was).0, slots_few (length c.args.s.now), held_fits c.args.s.now, c.used.ensures.used, c.requires.few) }
 
 pub overflow_sub-held : goal.overflow_sub-held
 overflow_sub-held c =
@@ -37,10 +21,6 @@ pub returns-in_err-enough : goal.returns-in_err-enough
 returns-in_err-enough c =
     let p = err_from_is_err_and c.from_residual-in_err-enough.result c.from_residual-in_err-enough.ensures.1 in
     rw (p.1, p.2) (record { tried = tried_full _ c.requires.valid _ _ c.requires.members c.args.more _ c.growth_of.ensures.growth _ c.in_ok-growth.was _ _ c.units.ensures.units c.used.ensures.used _ (number_refused _ _ c.in_err-enough.was ∙ c.enough.ensures.lack) (refusal_some _) })
-
-pub commit-requires : goal.commit-requires
-commit-requires c =
-    record { valid = c.requires.valid; members = c.requires.members; fits = tried_fits _ c.requires.valid _ _ c.requires.members c.args.more _ c.growth_of.ensures.growth _ c.in_ok-growth.was _ _ c.units.ensures.units c.used.ensures.used _ c.enough.ensures.lack (none_refused _ _ c.in_ok-enough.was) }
 
 pub returns : goal.returns
 returns c =

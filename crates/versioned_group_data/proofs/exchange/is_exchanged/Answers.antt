@@ -1,7 +1,7 @@
 -- `versioned_group_data::exchange::is_exchanged` meets its contract.
 -- Assumes nothing.
 use native.Mathlib.Omega.{arith}
-use Rattle.versioned_group_data.proofs.BaseExchanges.{slot_room, read_exchanged}
+use Rattle.versioned_group_data.proofs.BaseExchanges.{slot_room}
 use Rattle.versioned_group_data.proofs.exchange.is_exchanged.Goals as goal
 
 pub overflow_mul-i : goal.overflow_mul-i
@@ -15,7 +15,3 @@ overflow_add-i c =
 pub read-requires : goal.read-requires
 read-requires c =
     record { inside = omega (arith, (slot_room c.args.i _ c.requires.inside).1) }
-
-pub returns : goal.returns
-returns c =
-    record { exchanged = read_exchanged _ _ _ _ (λ j. (c.type_inv.s j).fits) c.requires.inside c.read.ensures.value c.is_exchanged.ensures.exchanged }

@@ -1,7 +1,7 @@
 -- `versioned_group_data::exchange::write_value` meets its contract.
 -- Assumes nothing.
 use native.Mathlib.Omega.{arith}
-use Rattle.versioned_group_data.proofs.BaseExchanges.{slot_room, value_put}
+use Rattle.versioned_group_data.proofs.BaseExchanges.{slot_room}
 use Rattle.versioned_group_data.proofs.exchange.write_value.Goals as goal
 
 pub overflow_mul-i : goal.overflow_mul-i
@@ -15,7 +15,3 @@ overflow_add-i c =
 pub write-requires : goal.write-requires
 write-requires c =
     record { inside = omega (arith, (slot_room c.args.i _ c.requires.slot).1) }
-
-pub returns : goal.returns
-returns c =
-    record { written = value_put _ _ _ _ c.requires.slot c.write.ensures.written }

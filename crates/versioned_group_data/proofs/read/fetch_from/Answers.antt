@@ -3,20 +3,8 @@
 use native.Mathlib.Omega.{arith}
 use mathlib.Core.Path.{refl, sym, ◌∙◌}
 use Prim.Native.Nat.{◌-◌}
-use Rattle.versioned_group_data.proofs.ReadTurns.{here_read, slot_read, word_read, here_few, readable_on, based_on, fetch_over, fetch_end, fetch_found, fetch_on}
+use Rattle.versioned_group_data.proofs.ReadTurns.{slot_read, word_read, here_few, readable_on, based_on, fetch_found, fetch_on}
 use Rattle.versioned_group_data.proofs.read.fetch_from.Goals as goal
-
-pub offset_bounds-slots-j : goal.offset_bounds-slots-j
-offset_bounds-slots-j c =
-    let h = here_read _ _ c.slots_of-slots.ensures.slots (c.loop-j.j - 1) (here_few _ _ _ (omega arith) c.loop-j.invariant.0) in
-    omega arith
-
-pub bounds-slots-j : goal.bounds-slots-j
-bounds-slots-j c = here_read _ _ c.slots_of-slots.ensures.slots (c.loop-j.j - 1) (here_few _ _ _ (omega arith) c.loop-j.invariant.0)
-
-pub returns-then-u-key : goal.returns-then-u-key
-returns-then-u-key c =
-    record { found = fetch_end _ _ _ _ _ c.loop-j.based c.loop-j.invariant.1 c.loop-j.invariant.2 (omega arith) c.loop-j.invariant.0 _ (word_read _ _ c.slots_of-slots.ensures.slots (c.loop-j.j - 1) (here_few _ _ _ (omega arith) c.loop-j.invariant.0) 1 (omega arith)) c.if-u-key.true _ c.none_output.ensures.none }
 
 pub returns-then-u-part : goal.returns-then-u-part
 returns-then-u-part c =
@@ -33,7 +21,3 @@ loop-j-preserved c =
       fetch_on _ _ _ _ _ c.loop-j.based c.loop-j.invariant.1 c.loop-j.invariant.2 (omega arith) c.loop-j.invariant.0 _ word c.if-u-key.false _ (word_read _ _ c.slots_of-slots.ensures.slots (c.loop-j.j - 1) (here_few _ _ _ (omega arith) c.loop-j.invariant.0) 3 (omega arith))
           (λ e. c.if-u-part.false (e ∙ sym c.part.ensures.part)),
     )
-
-pub returns : goal.returns
-returns c =
-    record { found = fetch_over _ _ _ _ _ c.loop-j.based c.loop-j.invariant.1 c.loop-j.invariant.2 (omega arith) _ c.none_output-2.ensures.none }

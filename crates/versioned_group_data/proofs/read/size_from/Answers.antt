@@ -3,19 +3,8 @@
 use native.Mathlib.Omega.{arith}
 use mathlib.Core.Path.{refl}
 use Prim.Native.Nat.{◌-◌}
-use Rattle.versioned_group_data.proofs.ReadTurns.{here_read, slot_read, word_read, here_few, fine_here, readable_on, based_on, start_tally, start_bounded, size_over_lem, size_end, size_on}
+use Rattle.versioned_group_data.proofs.ReadTurns.{slot_read, word_read, here_few, fine_here, readable_on, based_on, size_end, size_on}
 use Rattle.versioned_group_data.proofs.read.size_from.Goals as goal
-
-pub loop-j-init : goal.loop-j-init
-loop-j-init c = (c.requires.readable, refl, start_tally _, start_bounded)
-
-pub offset_bounds-slots-j : goal.offset_bounds-slots-j
-offset_bounds-slots-j c =
-    let h = here_read _ _ c.slots_of-slots.ensures.slots (c.loop-j.j - 1) (here_few _ _ _ (omega arith) c.loop-j.invariant.0) in
-    omega arith
-
-pub bounds-slots-j : goal.bounds-slots-j
-bounds-slots-j c = here_read _ _ c.slots_of-slots.ensures.slots (c.loop-j.j - 1) (here_few _ _ _ (omega arith) c.loop-j.invariant.0)
 
 pub returns-then-u-key : goal.returns-then-u-key
 returns-then-u-key c =
@@ -34,7 +23,3 @@ loop-j-preserved c =
       size_on _ _ _ _ c.loop-j.based c.loop-j.invariant.1 _ _ c.loop-j.invariant.2 (omega arith) c.loop-j.invariant.0 _ word c.if-u-key.false _ _ counted,
       c.count_slot-t.ensures.counted.bounded,
     )
-
-pub returns : goal.returns
-returns c =
-    record { size = size_over_lem _ _ _ _ c.loop-j.based c.loop-j.invariant.1 _ _ c.loop-j.invariant.2 (omega arith) _ c.size_output-2.ensures.size }

@@ -2,14 +2,9 @@
 -- Assumes nothing.
 use mathlib.Core.Path.{refl}
 use native.Mathlib.Omega.{arith}
-use Rattle.group_slots.proofs.GroupHolding.{packed_valid}
 use Rattle.types.proofs.IndexLaws.{shifted_word}
 use Rattle.versioned_group_data.proofs.UpdateEdits.{run_room, remove_done}
 use Rattle.versioned_group_data.proofs.update.remove.Goals as goal
-
-pub used-n-requires : goal.used-n-requires
-used-n-requires c =
-    record { packed = packed_valid _ c.requires.valid }
 
 pub close_slots-requires : goal.close_slots-requires
 close_slots-requires c =

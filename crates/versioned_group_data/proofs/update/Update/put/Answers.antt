@@ -6,14 +6,9 @@ use Rattle.request.specs.Members.{members_in}
 use native.Mathlib.Omega.{arith}
 use Rattle.types.specs.Units.{units_in}
 use Rattle.versioned_group_data.proofs.Results.{refusal_some, none_refused, number_refused}
-use Rattle.group_slots.proofs.GroupHolding.{packed_valid}
 use Rattle.versioned_group_data.proofs.MembersHanded.{handed_few}
-use Rattle.versioned_group_data.proofs.UpdateEdits.{run_room, put_refused, put_room, put_done}
+use Rattle.versioned_group_data.proofs.UpdateEdits.{run_room, put_refused, put_done}
 use Rattle.versioned_group_data.proofs.update.Update.put.Goals as goal
-
-pub used-n-requires : goal.used-n-requires
-used-n-requires c =
-    record { packed = packed_valid _ c.requires.valid }
 
 pub overflow_sub-n : goal.overflow_sub-n
 overflow_sub-n c =
@@ -30,19 +25,6 @@ pub returns-in_err-enough : goal.returns-in_err-enough
 returns-in_err-enough c =
     let p = err_from_is_err_and c.from_residual.result c.from_residual.ensures.1 in
     rw (p.1, p.2) (record { recorded = put_refused _ c.requires.valid _ _ _ refl _ c.find_update-run.ensures.run _ c.used-n.ensures.used c.args.self.incarnation (members_in c.args.self.members) _ c.len-m.ensures.counted _ _ c.units.ensures.units (number_refused _ _ c.in_err-enough.was ∙ c.enough.ensures.lack) (refusal_some _) })
-
-pub resize-requires : goal.resize-requires
-resize-requires c =
-    let room = run_room _ c.requires.valid _ _ _ refl _ c.find_update-run.ensures.run _ c.used-n.ensures.used in
-    let put = put_room _ c.requires.valid _ _ _ refl _ c.find_update-run.ensures.run _ c.used-n.ensures.used c.args.self.incarnation (members_in c.args.self.members) _ c.len-m.ensures.counted _ _ c.units.ensures.units c.enough.ensures.lack (none_refused _ _ c.in_ok-enough.was) in
-    record { order = omega (arith, room.0); inside = room.1; room = omega (arith, put) }
-
-pub write-requires : goal.write-requires
-unfolding units_in
-write-requires c =
-    let room = run_room _ c.requires.valid _ _ _ refl _ c.find_update-run.ensures.run _ c.used-n.ensures.used in
-    let put = put_room _ c.requires.valid _ _ _ refl _ c.find_update-run.ensures.run _ c.used-n.ensures.used c.args.self.incarnation (members_in c.args.self.members) _ c.len-m.ensures.counted _ _ c.units.ensures.units c.enough.ensures.lack (none_refused _ _ c.in_ok-enough.was) in
-    record { room = omega (arith, room.0, room.1, put, c.len-m.ensures.counted) }
 
 pub returns : goal.returns
 returns c =
