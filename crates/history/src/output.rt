@@ -101,6 +101,8 @@ impl<const N: usize> Output<N> {
         self.push(b'\n');
     }
 
+    // Puts a number of one or two digits.
+    // Kept: no `write!`, as for `put_word`; itoa would put its digits into a buffer of 40 bytes first.
     fn put_decimal(&mut self, n: u32)
         requires small { n < 100 }
         requires room { self.old.put + 2 ≤ N }
@@ -157,6 +159,7 @@ impl<const N: usize> Output<N> {
 }
 
 // A digit below 16, in capitals.
+// Kept: `char::from_digit` gives small letters, and an Option of a char.
 fn digit(d: u32) -> u8
     requires small { d < 16 }
     ensures digit { result ≡ digit_of d }

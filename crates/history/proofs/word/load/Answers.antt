@@ -1,5 +1,5 @@
 use Rattle.std.proofs.Common.{refl, arith, length-set}
-use Rattle.history.proofs.InputWords.{load_start, load_again, load_done}
+use Rattle.history.proofs.InputWords.{load_start, load_again}
 use Rattle.history.proofs.word.load.Goals as goal
 
 pub loop-i-init : goal.loop-i-init

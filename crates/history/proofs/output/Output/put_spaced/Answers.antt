@@ -1,4 +1,4 @@
-use Rattle.std.proofs.Common.{take, take_all, arith, rules, length-take-le}
+use Rattle.std.proofs.Common.{take, arith, rules, length-take-le}
 use Rattle.history.specs.Line.{spaced}
 use Rattle.history.proofs.LineLaws.{puts_none, spaced_next, length_spaced}
 use Rattle.history.proofs.output.Output.put_spaced.Goals as goal

@@ -1,6 +1,6 @@
 use Rattle.std.proofs.Common.{sym, ◌∙◌, arith}
 use Rattle.history.specs.Line.{hex_word}
-use Rattle.history.proofs.LineLaws.{puts_none, puts_next, hex_digit, hex_done, length_hex_word}
+use Rattle.history.proofs.LineLaws.{puts_next, hex_digit, hex_done, length_hex_word}
 use Rattle.history.proofs.output.Output.put_word.Goals as goal
 
 pub loop-k-preserved : goal.loop-k-preserved
