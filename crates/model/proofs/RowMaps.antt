@@ -1,5 +1,5 @@
 -- Rising rows as a finite map: what every row keeps to after an edit, and that equal look-ups are equal rows. (What a look-up finds after an
--- edit: `Lookups`.)
+-- edit: `RowLookups`.)
 -- Assumes nothing.
 use mathlib.Core.Path.{◌≡◌, refl, sym, ◌∙◌, ap, ap₂}
 use mathlib.Core.Bool.{Bool, true, false, not, ◌&&◌}

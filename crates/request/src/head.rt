@@ -1,4 +1,4 @@
-// The head of a request and its row of the table: decoded once, and handed on to each part of the check.
+// The head of a request and its row of the table: decoded once, and handed on to the parts of the check that ask for them.
 ghost use Rattle.std.specs.Prelude.{◌≡◌, ◌<◌, length};
 ghost use Rattle.request.specs.Fields.{head_at};
 

@@ -1,5 +1,5 @@
 // Where the fields of a request stand, the head being word 0. Each is the same in every kind that has it, but for the index of kind 13, which stands
-// after its tag, and for values and deltas, which come last.
+// after its tag, and for sets, values and deltas, which come last.
 pub const KEY: usize = 1;
 
 pub const INDEX: usize = 2;

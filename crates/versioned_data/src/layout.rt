@@ -1,7 +1,7 @@
 // How an entry stands in a row of the store (specs/Layout.antt).
 use store::read::Rows;
 
-// The words of a payload, and of its content.
+// The words of a payload.
 pub const WIDTH: usize = 22;
 
 // A spot has one row.
