@@ -10,7 +10,6 @@ use lib.Dec.{ltb}
 use lib.ListN.{length, get_or, take, drop, length-drop}
 use lib.Seq.{length-take-le, get_or-take, get_or-drop}
 use borrow.Author.Tests.{not-true, ltb-true, ltb-false, lt-ltb, le-ltb}
-use Rattle.std.specs.List.Sorted.{IsPartitionPoint, IsPartitionedBy}
 use Rattle.lists.specs.Lists.{every, front}
 use Rattle.lists.proofs.Bools.{and_left, and_right, true_not_false}
 use Rattle.lists.proofs.Lists.{every_at, every_front, every_imp, every_of, front_take, length_front}
@@ -179,19 +178,16 @@ module _ (p : Slot → Bool) (s : List ℕ) (m : ℕ) (few : m ≤ units_in (len
   tells_at i d h =
       ap p (slots_are s us all i d h) ∙ tells i (omega (arith, many))
 
-  pub parted : IsPartitionedBy p us
-  parted i j d l h e = tells_at i d (omega arith) ∙ lt-ltb i m (omega (arith, ltb-true j m (sym (tells_at j d h) ∙ e)))
-
-  pub point_is : (r : ℕ) → r ≤ length us → IsPartitionPoint (λ y. p y ≡ true) (λ y. p y ≡ false) us r → r ≡ m
-  point_is r within at =
+  pub point_is : (r : ℕ) → r ≤ length us → (0 < r → true ≡ p (get_or us (r - 1) [])) → (r < length us → false ≡ p (get_or us r [])) → r ≡ m
+  point_is r within last first =
       let low : r ≤ m = below (dec_lt 0 r) in
       let high : m ≤ r = above (dec_lt r (length us)) in
       omega arith
     where
       below : Dec (0 < r) → r ≤ m
-      below (yes h) = omega (arith, ltb-true (r - 1) m (sym (tells_at (r - 1) [] (omega arith)) ∙ at.0 (r - 1) [] (omega arith) (omega arith)))
+      below (yes h) = omega (arith, ltb-true (r - 1) m (sym (tells_at (r - 1) [] (omega arith)) ∙ sym (last h)))
       below (no h) = omega arith
 
       above : Dec (r < length us) → m ≤ r
-      above (yes h) = ltb-false r m (sym (tells_at r [] h) ∙ at.1 r [] (omega arith) h)
+      above (yes h) = ltb-false r m (sym (tells_at r [] h) ∙ sym (first h))
       above (no h) = omega (arith, many)
