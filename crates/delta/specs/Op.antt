@@ -45,6 +45,13 @@ change_of z = cond (ltb (nat_abs z) range) (Some (record { size = number_of (nat
 unfoldable pub reach_of : ℕ → ℕ → rust.Option Number
 reach_of limit v = cond (leb v limit) (Some (number_of v)) None
 
+-- ---- a record that is lent to a merge
+
+-- what stands in it afterwards: a failure leaves it unchanged
+unfoldable pub kept_or : DeltaOp → rust.Option Delta → DeltaOp
+kept_or newer (Some d) = op_of d
+kept_or newer None = newer
+
 -- ---- records that anybody may have written
 
 -- a bad record is not merged

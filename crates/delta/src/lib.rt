@@ -1,10 +1,11 @@
 // Deltas by value: a change to a number that keeps within a limit on its way.
 #![tactic(auto)]
 
-ghost use Rattle.std.specs.Prelude.{◌≡◌};
-ghost use Rattle.delta.specs.Delta.{accumulate, sign_word};
+ghost use Rattle.std.specs.Prelude.{◌≡◌, true};
+ghost use Rattle.number.specs.Number.{value_of};
+ghost use Rattle.delta.specs.Delta.{valid, apply_to, merge, accumulate, sign_word};
 ghost use Rattle.delta.specs.Record.{exact, valid_op};
-ghost use Rattle.delta.specs.Op.{integer_of, exactly, accumulator_of, accumulate_op};
+ghost use Rattle.delta.specs.Op.{integer_of, applied_of, merged_of, exactly, accumulator_of, accumulate_op};
 
 use number::Number;
 use signed::Signed;
@@ -76,22 +77,48 @@ impl DeltaOp {
             minus: self.sign != 0,
         }
     }
+
+    // The same of a record whose numbers are those of a delta.
+    pub fn apply_to(self, v: Number) -> Option<Number>
+        requires is_delta { valid (exact self) ≡ true }
+        ensures applies { result ≡ applied_of (apply_to (exact self) (value_of v)) }
+    {
+        ValidDelta::new(self).apply_to(v)
+    }
+
+    // The same of two such records.
+    pub fn merge_with_previous_delta(self, previous: DeltaOp) -> Option<ValidDelta>
+        requires is_delta { valid (exact self) ≡ true }
+        requires previous_is_delta { valid (exact previous) ≡ true }
+        ensures merges { result ≡ merged_of (merge (exact self) (exact previous)) }
+    {
+        ValidDelta::new(self).merge_with_previous_delta(ValidDelta::new(previous))
+    }
 }
 
 impl Accumulator {
     // An earlier delta, met by a walk that goes newest first.
     #[tactic(auto, unfolding(crate::specs::Op::accumulator_of, crate::specs::Op::exactly, crate::specs::Op::merged_of, crate::specs::Delta::accumulate, crate::specs::Delta::gathered))]
-    pub fn accumulate(self, earlier: ValidDelta) -> Accumulator
+    pub fn accumulate_valid(self, earlier: ValidDelta) -> Accumulator
         ensures accumulates { result ≡ accumulator_of (accumulate (exactly self) earlier) }
     {
         match self {
             Accumulator::Empty => Accumulator::Gathered(earlier),
-            Accumulator::Gathered(newer) => match lent::merge_copy(newer, earlier) {
+            Accumulator::Gathered(newer) => match lent::merge_valid_copy(newer, earlier) {
                 Some(delta) => Accumulator::Gathered(delta),
                 None => Accumulator::Failed,
             },
             Accumulator::Failed => Accumulator::Failed,
         }
+    }
+
+    // The same of a record that is known to be a delta.
+    #[tactic(auto, using(crate::proofs::RecordLaws::valid_op_valid))]
+    pub fn accumulate(self, earlier: DeltaOp) -> Accumulator
+        requires is_delta { valid_op earlier ≡ true }
+        ensures accumulates { result ≡ accumulator_of (accumulate (exactly self) (exact earlier)) }
+    {
+        self.accumulate_valid(ValidDelta::new(earlier))
     }
 
     // An earlier record that anybody may have written: a bad one fails the merge.
@@ -102,6 +129,6 @@ impl Accumulator {
         let Some(earlier) = earlier.checked() else {
             return Accumulator::Failed;
         };
-        self.accumulate(earlier)
+        self.accumulate_valid(earlier)
     }
 }

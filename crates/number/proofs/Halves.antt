@@ -1,10 +1,10 @@
 -- Laws of 128-bit numbers in two halves.
 -- Assumes nothing.
-use Rattle.std.proofs.Common.{◌≡◌, ℕ, ◌+◌, ◌*◌, ◌^◌, ◌<◌, ◌≤◌, max, true, false, not, ◌==◌, Some, None, ltb, leb, arith}
+use Rattle.std.proofs.Common.{◌≡◌, ℕ, ◌+◌, ◌-◌, ◌*◌, ◌^◌, ◌<◌, ◌≤◌, max, true, false, not, ◌==◌, Some, None, ltb, leb, arith}
 use Rattle.std.specs.Ordering.{nat_cmp, is_lt, is_le, on, ord_max}
 use native.Mathlib.Nat.{mod-add-div'}
 use Rattle.number.specs.declared.Number.{Number}
-use Rattle.number.specs.Number.{Halves, range, value_of, number_of, sum_of}
+use Rattle.number.specs.Number.{Halves, range, value_of, number_of, sum_of, difference_of}
 
 -- ---- halves and values
 
@@ -24,12 +24,16 @@ pub value_below : (n : Number) → Halves n → value_of n < range
 unfolding value_of range
 value_below n g = omega (arith, g.low, g.high)
 
--- ---- what a caller learns of a sum
+-- ---- what a caller learns of a sum and of a difference
 
 pub record IsSum (a b n : Number) : Type 0 where
   pub is : n ≡ number_of (value_of a + value_of b)
   pub value : value_of n ≡ value_of a + value_of b
   pub fits : value_of a + value_of b < range
+
+pub record IsDifference (a b n : Number) : Type 0 where
+  pub is : n ≡ number_of (value_of a - value_of b)
+  pub value : value_of n + value_of b ≡ value_of a
 
 module _ (a b : Number) where
   pub some_sum : (n : Number) → sum_of a b ≡ Some n → IsSum a b n
@@ -39,6 +43,14 @@ module _ (a b : Number) where
   pub no_sum : sum_of a b ≡ None → range ≤ value_of a + value_of b
   unfolding sum_of
   no_sum e = grind arith
+
+  pub some_difference : (n : Number) → difference_of a b ≡ Some n → IsDifference a b n
+  unfolding difference_of
+  some_difference n e = grind (arith, value_of_number_of)
+
+  pub no_difference : difference_of a b ≡ None → value_of a < value_of b
+  unfolding difference_of
+  no_difference e = grind arith
 
 -- ---- what a caller learns of an order
 

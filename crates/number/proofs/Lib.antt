@@ -1,3 +1,4 @@
+pub mod AnyBase
 pub mod Digits
 pub mod Halves
 pub mod SetRuns

@@ -177,7 +177,7 @@ impl<'a> Entries<'a> {
         let marks = Marks(self.rows.marks_at(at));
         let b = self.rows.content_at(at);
         let earlier = read_op(self.rows.words, b, marks.sign());
-        acc.accumulate(ValidDelta::new(earlier))
+        acc.accumulate_valid(ValidDelta::new(earlier))
     }
 
     // How many done deltas without a shortcut a walk meets from a row down, while the key is the same, and those met before: the shifted index falls at

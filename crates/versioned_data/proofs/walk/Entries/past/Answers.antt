@@ -18,4 +18,4 @@ new-requires c =
 pub returns : goal.returns
 returns c =
     let is = op_exact _ _ (record { valid = c.args.self.rows.valid; fine = c.args.self.fine }) _ _ c.requires.there _ c.content_at-b.ensures.content _ c.marks_at.ensures.marks (ap (λ (k : ℕ). k % 8) c.marks_at.ensures.marks ∙ c.requires.delta) _ c.sign.ensures.sign _ c.read_op-earlier.ensures.op in
-    record { gathered = c.accumulate.ensures.accumulates ∙ ap (λ (d : Delta). accumulator_of (accumulate (exactly c.args.acc) d)) (c.new.ensures.same ∙ is) }
+    record { gathered = c.accumulate_valid.ensures.accumulates ∙ ap (λ (d : Delta). accumulator_of (accumulate (exactly c.args.acc) d)) (c.new.ensures.same ∙ is) }
