@@ -77,6 +77,26 @@ kind_back GroupFetch = refl
 kind_back GroupSize = refl
 kind_back Finalize = refl
 
+-- Where no tail follows, the fixed words are room enough.
+pub room_alone : (t : List ℕ) (k : Kind) → (row_of (number_of k)).tail ≡ alone → (row_of (number_of k)).fixed < length t → RoomIn t (asked_by k t)
+unfolding RoomIn asked_by asked_as row_of table row
+room_alone t LastCommitted w h = tt
+room_alone t Base w h = omega arith
+room_alone t Write w h = omega arith
+room_alone t AddDelta w h = omega arith
+room_alone t Estimate w h = tt
+room_alone t Remove w h = tt
+room_alone t Fetch w h = tt
+room_alone t Materialize w h = tt
+room_alone t GroupBase w h = absurd (let z : ◌≡◌ {A = ℕ} 0 1 = cc in omega arith)
+room_alone t Exchange w h = omega arith
+room_alone t GroupWrite w h = absurd (let z : ◌≡◌ {A = ℕ} 0 1 = cc in omega arith)
+room_alone t GroupEstimate w h = tt
+room_alone t GroupRemove w h = tt
+room_alone t GroupFetch w h = tt
+room_alone t GroupSize w h = tt
+room_alone t Finalize w h = tt
+
 module _ (t : List ℕ) (s : shape_ok t ≡ true) where
   row_is : row_at t ≡ row_of (number_of (row_at t).kind)
   row_is = row_by_kind t (shape_small t s)
