@@ -90,6 +90,7 @@ impl<'a, const WIDTH: usize, const PARTS: usize> Rows<'a, WIDTH, PARTS> {
     }
 
     #[inline]
+    #[tactic(auto, using(crate::proofs::Reading::read_key))]
     pub fn key_at(self, at: Place) -> u32
         requires there { There WIDTH self.units self.words.now at.page at.cell }
         ensures key { result ≡ (get_or (held WIDTH self.entry.units self.entry.words.now) (position_of WIDTH self.entry.units self.entry.words.now at.page at.cell) no_row).spot / 4294967296 }
