@@ -51,6 +51,15 @@ pub fn find_place(s: &[u32], base: usize, n: usize, y: u64) -> Place
     Place { page, cell }
 }
 
+// Whether a cell stands at a place, which else is the end of its page's cells.
+pub fn is_cell(s: &[u32], base: usize, n: usize, at: Place) -> bool
+    requires directory { Directory base n s.now }
+    requires stands { Stands base s.now at.page at.cell }
+    ensures there { result ≡ ltb at.cell (get_or s.now (base + 97 * at.page) 0) }
+{
+    at.cell < word(s, base + 97 * at.page)
+}
+
 // The first cell at or after a place, if there is one: after a page's last cell that of the next page.
 pub fn cell_after(s: &[u32], base: usize, n: usize, at: Place) -> Option<Place>
     requires directory { Directory base n s.now }
@@ -59,7 +68,7 @@ pub fn cell_after(s: &[u32], base: usize, n: usize, at: Place) -> Option<Place>
     ensures place { position_or_end base s.now result ≡ position_in base s.now at.page at.cell }
     ensures some { is_some result ≡ ltb (position_in base s.now at.page at.cell) (length (cells_in base s.now)) }
 {
-    if at.cell < word(s, base + 97 * at.page) {
+    if is_cell(s, base, n, at) {
         return Some(at);
     }
     if word(s, 1) <= at.page {

@@ -1,23 +1,24 @@
 -- What a request of the right shape asks: its fields are within its words, their rule is that of 01, and they stand for what its words ask.
 use mathlib.Core.Path.{◌≡◌, refl, sym, ap, ◌∙◌}
-use mathlib.Core.Bool.{Bool, true, not}
+use mathlib.Core.Bool.{Bool, true, false, not}
 use mathlib.Core.List.{List}
 use Prim.Native.Nat.{ℕ, ◌+◌, ◌*◌, ◌≤◌, ◌<◌}
 use native.Mathlib.Nat.{add-zero}
 use native.Mathlib.Omega.{arith}
+use lib.Dec.{ltb}
 use lib.ListN.{length, get_or, take, drop, length-drop}
 use lib.Seq.{take_all}
-use borrow.Author.Tests.{leb-true}
+use borrow.Author.Tests.{leb-true, ltb-true, ltb-false}
 use Rattle.lists.proofs.Bools.{and_three}
 use Rattle.delta.specs.Delta.{delta_width, delta_ok}
 use Rattle.types.specs.Value.{value_width, is_deletion}
-use Rattle.request.specs.Table.{Kind, number_of, LastCommitted, Base, Write, AddDelta, Estimate, Remove, Fetch, Materialize, GroupBase, Exchange, GroupWrite, GroupEstimate, GroupRemove, GroupFetch, GroupSize, Finalize, alone, by_set, Row, row, at, table, row_of, key_place, index_place, tag_place, incarnation_place, tagged_index_place}
+use Rattle.request.specs.Table.{Kind, number_of, LastCommitted, Base, Write, AddDelta, Estimate, Remove, Fetch, Materialize, GroupBase, Exchange, GroupWrite, GroupEstimate, GroupRemove, GroupFetch, GroupSize, Finalize, alone, by_set, Row, row, no_row, at, table, row_of, key_place, index_place, tag_place, incarnation_place, tagged_index_place}
 use Rattle.request.specs.Set.{tags_of}
 use Rattle.request.specs.Request.{row_at, tags_at, tags_by, tags, value_in, delta_in, members, tail_length, shape_ok, exchanged_ok, raw_ok, tag_ok, all, fields_ok, last_index, index_in, index_ok, group_base, group_write, request_as, request_of}
 use Rattle.request.specs.Fields.{kind_at, kind_asked, set_in, asked_as, asked_by, asked_at, members_from, meaning_in, RoomIn, rule_in}
 use Rattle.request.specs.declared.asked.Request.{Request}
 use Rattle.request.specs.declared.asked.Request.TheVariants as Code
-use Rattle.request.proofs.KindNumbers.{row_number, row_by_kind}
+use Rattle.request.proofs.KindNumbers.{row_number, row_by_kind, row_past}
 use Rattle.request.proofs.CheckAnswers.{shape_small, shape_whole, shape_length}
 
 -- What the check of its fields and its index tells of a request: that its tag is one, and that its index can be shifted, that of kind 7 twice.
@@ -77,6 +78,69 @@ kind_back GroupFetch = refl
 kind_back GroupSize = refl
 kind_back Finalize = refl
 
+-- Where no tail follows, the fixed words are room enough.
+pub room_alone : (t : List ℕ) (k : Kind) → (row_of (number_of k)).tail ≡ alone → (row_of (number_of k)).fixed < length t → RoomIn t (asked_by k t)
+unfolding RoomIn asked_by asked_as row_of table row
+room_alone t LastCommitted w h = tt
+room_alone t Base w h = omega arith
+room_alone t Write w h = omega arith
+room_alone t AddDelta w h = omega arith
+room_alone t Estimate w h = tt
+room_alone t Remove w h = tt
+room_alone t Fetch w h = tt
+room_alone t Materialize w h = tt
+room_alone t GroupBase w h = absurd (let z : ◌≡◌ {A = ℕ} 0 1 = cc in omega arith)
+room_alone t Exchange w h = omega arith
+room_alone t GroupWrite w h = absurd (let z : ◌≡◌ {A = ℕ} 0 1 = cc in omega arith)
+room_alone t GroupEstimate w h = tt
+room_alone t GroupRemove w h = tt
+room_alone t GroupFetch w h = tt
+room_alone t GroupSize w h = tt
+room_alone t Finalize w h = tt
+
+-- ---- what any words ask
+
+module _ (t : List ℕ) where
+  module _ (n : ℕ) (e : row_at t ≡ row_of n) (w : (row_of n).tail ≡ by_set value_width) where
+    tags_are : tags_of (set_in (row_at t) t).low (set_in (row_at t) t).high ≡ tags t
+    unfolding set_in tags tags_by tags_at
+    tags_are = let tail : (row_at t).tail ≡ by_set value_width = rw e w in rw tail refl
+
+    members_are : members_from (set_in (row_at t) t) (row_at t).value t ≡ members t
+    unfolding members_from members
+    members_are = rw tags_are refl
+
+  meaning_as : (k : Kind) → row_at t ≡ row_of (number_of k) → meaning_in t (asked_as k (row_at t) t) ≡ request_as k t
+  unfolding meaning_in asked_as request_as value_in delta_in row_of table row
+  meaning_as LastCommitted e = refl
+  meaning_as Base e = refl
+  meaning_as Write e = refl
+  meaning_as AddDelta e = refl
+  meaning_as Estimate e = refl
+  meaning_as Remove e = refl
+  meaning_as Fetch e = refl
+  meaning_as Materialize e = refl
+  meaning_as GroupBase e = ap (group_base (get_or t key_place 0)) (members_are 8 e refl)
+  meaning_as Exchange e = refl
+  meaning_as GroupWrite e = ap (group_write (get_or t key_place 0) (get_or t index_place 0) (get_or t incarnation_place 0)) (members_are 10 e refl)
+  meaning_as GroupEstimate e = refl
+  meaning_as GroupRemove e = refl
+  meaning_as GroupFetch e = refl
+  meaning_as GroupSize e = refl
+  meaning_as Finalize e = refl
+
+  meaning_row : (b : Bool) → ltb (kind_at t) 16 ≡ b → meaning_in t (asked_as (row_at t).kind (row_at t) t) ≡ request_as (row_at t).kind t
+  unfolding meaning_in asked_as request_as no_row row
+  meaning_row true h = meaning_as (row_at t).kind (row_by_kind t (ltb-true (kind_at t) 16 h))
+  meaning_row false h = rw (row_past t (ltb-false (kind_at t) 16 h)) refl
+
+  -- A kind past the table's last asks as the code's does.
+  pub meaning_at : meaning_in t (asked_at t) ≡ request_of t
+  unfolding asked_at request_of
+  meaning_at = meaning_row (ltb (kind_at t) 16) refl
+
+-- ---- what those of the right shape ask
+
 module _ (t : List ℕ) (s : shape_ok t ≡ true) where
   row_is : row_at t ≡ row_of (number_of (row_at t).kind)
   row_is = row_by_kind t (shape_small t s)
@@ -92,10 +156,6 @@ module _ (t : List ℕ) (s : shape_ok t ≡ true) where
     exact w = rw (e, w, add-zero) at (shape_length t s)
 
     module _ (w : (row_of n).tail ≡ by_set value_width) where
-      tags_are : tags_of (set_in (row_at t) t).low (set_in (row_at t) t).high ≡ tags t
-      unfolding set_in tags tags_by tags_at
-      tags_are = let tail : (row_at t).tail ≡ by_set value_width = rw e w in rw tail refl
-
       -- The values of a set.
       values_fit : (row_of n).value ≡ (row_of n).fixed + 1
           → (row_at t).value + value_width * length (tags_of (set_in (row_at t) t).low (set_in (row_at t) t).high) ≤ length t
@@ -105,10 +165,6 @@ module _ (t : List ℕ) (s : shape_ok t ≡ true) where
           let place : (row_at t).value ≡ (row_at t).fixed + 1 = rw e v in
           let long = rw tail at (shape_length t s) in
           omega arith
-
-      members_are : members_from (set_in (row_at t) t) (row_at t).value t ≡ members t
-      unfolding members_from members
-      members_are = rw tags_are refl
 
   room_as : (k : Kind) → row_at t ≡ row_of (number_of k) → RoomIn t (asked_as k (row_at t) t)
   unfolding RoomIn asked_as row_of table row
@@ -145,33 +201,14 @@ module _ (t : List ℕ) (s : shape_ok t ≡ true) where
   rule_as Remove e = refl
   rule_as Fetch e = refl
   rule_as Materialize e = refl
-  rule_as GroupBase e = ap (all raw_ok) (members_are 8 e refl)
+  rule_as GroupBase e = ap (all raw_ok) (members_are t 8 e refl)
   rule_as Exchange e = refl
-  rule_as GroupWrite e = ap (all exchanged_ok) (members_are 10 e refl)
+  rule_as GroupWrite e = ap (all exchanged_ok) (members_are t 10 e refl)
   rule_as GroupEstimate e = refl
   rule_as GroupRemove e = refl
   rule_as GroupFetch e = refl
   rule_as GroupSize e = refl
   rule_as Finalize e = refl
-
-  meaning_as : (k : Kind) → row_at t ≡ row_of (number_of k) → meaning_in t (asked_as k (row_at t) t) ≡ request_as k t
-  unfolding meaning_in asked_as request_as value_in delta_in row_of table row
-  meaning_as LastCommitted e = refl
-  meaning_as Base e = refl
-  meaning_as Write e = refl
-  meaning_as AddDelta e = refl
-  meaning_as Estimate e = refl
-  meaning_as Remove e = refl
-  meaning_as Fetch e = refl
-  meaning_as Materialize e = refl
-  meaning_as GroupBase e = ap (group_base (get_or t key_place 0)) (members_are 8 e refl)
-  meaning_as Exchange e = refl
-  meaning_as GroupWrite e = ap (group_write (get_or t key_place 0) (get_or t index_place 0) (get_or t incarnation_place 0)) (members_are 10 e refl)
-  meaning_as GroupEstimate e = refl
-  meaning_as GroupRemove e = refl
-  meaning_as GroupFetch e = refl
-  meaning_as GroupSize e = refl
-  meaning_as Finalize e = refl
 
   pub kind_of_asked : number_of (kind_asked (asked_at t)) ≡ kind_at t
   unfolding asked_at row_at kind_at
@@ -184,10 +221,6 @@ module _ (t : List ℕ) (s : shape_ok t ≡ true) where
   pub rule_at : rule_in t (asked_at t) ≡ fields_ok (row_at t).kind t
   unfolding asked_at
   rule_at = rule_as (row_at t).kind row_is
-
-  pub meaning_at : meaning_in t (asked_at t) ≡ request_of t
-  unfolding asked_at request_of
-  meaning_at = meaning_as (row_at t).kind row_is
 
   -- What the code makes of the kind.
   module _ (k : Kind) (e : number_of k ≡ kind_at t) where

@@ -4,14 +4,18 @@ use mathlib.Core.List.{List}
 use Prim.Native.Nat.{ℕ}
 use Rattle.request.specs.Table.{number_of}
 use Rattle.request.specs.Request.{request_of}
-use Rattle.request.specs.Fields.{kind_at, kind_asked, meaning_in, RoomIn}
+use Rattle.request.specs.Fields.{kind_at, kind_asked, asked_at, meaning_in, RoomIn}
 use Rattle.request.specs.declared.asked.Request.{Request}
 use Rattle.request.proofs.CheckAnswers.{Passed}
 use Rattle.request.proofs.AskedRules.{Served, kind_of_asked, room_at, meaning_at, served_at}
 
+-- What words ask, passed or not.
+pub asks_at : (t : List ℕ) (f : Request) → f ≡ asked_at t → request_of t ≡ meaning_in t f
+asks_at t f e = sym (meaning_at t) ∙ sym (ap (meaning_in t) e)
+
 module _ (t : List ℕ) (f : Request) (p : Passed t f) where
   pub asks : request_of t ≡ meaning_in t f
-  asks = sym (meaning_at t p.shape) ∙ sym (ap (meaning_in t) p.asked)
+  asks = asks_at t f p.asked
 
   pub passed_kind : number_of (kind_asked f) ≡ kind_at t
   passed_kind = ap (λ (g : Request). number_of (kind_asked g)) p.asked ∙ kind_of_asked t p.shape

@@ -20,7 +20,7 @@ use Rattle.request.specs.Fields.{kind_at, asked_by, RoomIn, rule_in}
 use Rattle.request.specs.declared.table.Cells.{Cells}
 use Rattle.request.proofs.KindNumbers.{row_named}
 use Rattle.request.proofs.CheckAnswers.{shape_length}
-use Rattle.request.proofs.AskedRules.{kind_room, kind_rule}
+use Rattle.request.proofs.AskedRules.{room_alone, kind_rule}
 
 -- ---- the rows of the data kinds
 
@@ -142,6 +142,9 @@ module _ (t : List ℕ) (k : Kind) (e : number_of k ≡ kind_at t) (low : 1 ≤ 
     pub index_inside : c.0 < length t → index_place < length t
     index_inside h = let a : 2 ≤ (row_at t).fixed = rw row_is (data_fixed (number_of k) low high) in omega (arith, fixed_is)
 
+    pub data_room : c.0 < length t → RoomIn t (asked_by k t)
+    data_room h = room_alone t k (data_alone (number_of k) low high) (omega (arith, ap (λ (x : Cells). x.0) l))
+
     module _ (n : ℕ) (m : n ≡ count_in (get_or t 0 0)) where
       count_is : n ≡ count_of t
       unfolding count_of
@@ -162,9 +165,6 @@ module _ (t : List ℕ) (k : Kind) (e : number_of k ≡ kind_at t) (low : 1 ≤ 
             let a : (row_at t).fixed < length t = omega (arith, fixed_is) in
             let b : length t ≡ count_of t + 1 = omega (arith, fixed_is) in
             rw (tail_is, lt-ltb (row_at t).fixed (length t) a, eq-eqb (length t) (count_of t + 1) b, eq-eqb (count_of t) ((row_at t).fixed + 0) (omega arith)) refl
-
-        pub data_room : RoomIn t (asked_by k t)
-        data_room = kind_room t data_shape k e
 
         module _ (b : Bool) (o : b ≡ rule_in t (asked_by k t)) where
           g : b ≡ fields_ok (row_at t).kind t

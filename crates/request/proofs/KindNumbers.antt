@@ -38,6 +38,10 @@ past_is : (k : ℕ) → 16 ≤ k → row_of k ≡ no_row
 unfolding row_of table
 past_is k h = get_or-eq_default table no_row h
 
+pub row_past : (t : List ℕ) → 16 ≤ kind_at t → row_at t ≡ no_row
+unfolding row_at kind_at
+row_past t h = past_is (kind_at t) h
+
 absent_past : (k : ℕ) (t : List ℕ) → 16 ≤ k → tail_ok (row_of k).tail t ≡ false
 unfolding no_row row tail_ok
 absent_past k t h = rw (past_is k h) refl

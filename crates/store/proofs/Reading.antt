@@ -1,7 +1,7 @@
 -- Places among the rows, and the words of a row's cell.
 -- Assumes nothing.
 use mathlib.Core.Path.{◌≡◌, refl, sym, ◌∙◌, ap}
-use mathlib.Core.Bool.{Bool}
+use mathlib.Core.Bool.{Bool, true}
 use Rattle.std.specs.Prelude.{Option, Some, None, IfSome, is_some}
 use mathlib.Core.List.{List}
 use Prim.Native.Nat.{ℕ, ◌+◌, ◌*◌, ◌/◌, ◌%◌, ◌≤◌, ◌<◌}
@@ -14,7 +14,7 @@ use Rattle.directory.specs.Cells as Dir
 use Rattle.directory.specs.Cells.{cell_at, cells_in, position_in}
 use Rattle.directory.specs.declared.cells.Place.{Place}
 use Rattle.directory.specs.Directory as Laid
-use Rattle.directory.proofs.Positions.{position_in_lem, position_fits, cell_in}
+use Rattle.directory.proofs.Positions.{position_in_lem, position_fits, cell_in, there_stands}
 use Rattle.directory.proofs.Directories.{cell_inside}
 use Rattle.store.specs.Held.{base_of, payload_at, held, row_spots, position_of, position_or_end, content_of, no_row, no_cell}
 use Rattle.store.specs.Valid.{Valid, Stands, There}
@@ -28,6 +28,10 @@ module _ (w n : ℕ) (s : List ℕ) where
   pub place_held : (p i : ℕ) → Stands w n s p i → position_of w n s p i ≤ length (held w n s)
   unfolding Stands position_of
   place_held p i t = omega (arith, position_fits (base_of w n) s p i t, held_length w n s)
+
+  pub row_stands : (p i : ℕ) → Stands w n s p i → (is : Bool) → is ≡ ltb i (get_or s (base_of w n + 97 * p) 0) → is ≡ true → There w n s p i
+  unfolding Stands There
+  row_stands p i t is e f = there_stands (base_of w n) s p i is t e f
 
   -- what the search in the directory tells
   pub found_place : (y p i : ℕ) → Laid.Stands (base_of w n) s p i → position_in (base_of w n) s p i ≡ count_above y (spots (cells_in (base_of w n) s)) →

@@ -1,5 +1,5 @@
 // A store that is read: places among its rows, and what stands there.
-ghost use Rattle.std.specs.Prelude.{◌≡◌, IfSome, is_some, suc, ◌+◌, ◌*◌, ◌/◌, ◌%◌, ◌≤◌, ◌<◌, ltb, length, get_or};
+ghost use Rattle.std.specs.Prelude.{◌≡◌, true, IfSome, is_some, suc, ◌+◌, ◌*◌, ◌/◌, ◌%◌, ◌≤◌, ◌<◌, ltb, length, get_or};
 ghost use Rattle.probe.specs.Cells.{count_above};
 ghost use Rattle.numbers.specs.Numbers.{props};
 ghost use Rattle.store.specs.Held.{base_of, held, row_spots, no_row, position_of, position_or_end, content_of};
@@ -27,7 +27,7 @@ impl<'a, const WIDTH: usize, const PARTS: usize> Rows<'a, WIDTH, PARTS> {
         search::word(self.words, 0)
     }
 
-    // Kept: three methods that hand on to `search`: each says of rows what that says of cells, and without them each caller would carry base and units, and the clauses of cells.
+    // Kept: four methods that hand on to `search`: each says of rows what that says of cells, and without them each caller would carry base and units, and the clauses of cells.
 
     // The place after all rows whose spots are above y and before all others.
     #[inline]
@@ -36,6 +36,16 @@ impl<'a, const WIDTH: usize, const PARTS: usize> Rows<'a, WIDTH, PARTS> {
         ensures place { position_of WIDTH self.entry.units self.entry.words.now result.page result.cell ≡ count_above y (row_spots (held WIDTH self.entry.units self.entry.words.now)) }
     {
         search::find_place(self.words, 6 + WIDTH * self.units, self.units, y)
+    }
+
+    // Whether a row stands at a place.
+    #[inline]
+    pub fn is_row(self, at: Place) -> bool
+        requires stands { Stands WIDTH self.units self.words.now at.page at.cell }
+        ensures row { result ≡ ltb at.cell (get_or self.entry.words.now (base_of WIDTH self.entry.units + 97 * at.page) 0) }
+        ensures there { result ≡ true → There WIDTH self.entry.units self.entry.words.now at.page at.cell }
+    {
+        search::is_cell(self.words, 6 + WIDTH * self.units, self.units, at)
     }
 
     // The first row at or after a place, if there is one, as a place of the same position.
@@ -90,6 +100,7 @@ impl<'a, const WIDTH: usize, const PARTS: usize> Rows<'a, WIDTH, PARTS> {
     }
 
     #[inline]
+    #[tactic(auto, using(crate::proofs::Reading::read_key))]
     pub fn key_at(self, at: Place) -> u32
         requires there { There WIDTH self.units self.words.now at.page at.cell }
         ensures key { result ≡ (get_or (held WIDTH self.entry.units self.entry.words.now) (position_of WIDTH self.entry.units self.entry.words.now at.page at.cell) no_row).spot / 4294967296 }

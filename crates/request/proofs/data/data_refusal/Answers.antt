@@ -3,16 +3,16 @@ use Rattle.request.proofs.DataRules.{not_first, refused_length, refused_count, d
 use Rattle.request.proofs.data.data_refusal.Goals as goal
 
 pub returns-then-t-fixed : goal.returns-then-t-fixed
-returns-then-t-fixed c = record { refused = refused_length _ _ c.requires.kind c.requires.first c.requires.last _ c.cells_of-cells.ensures.cells c.if-t-fixed.true }
+returns-then-t-fixed c = record { refused = refused_length _ _ c.requires.kind c.requires.first c.requires.last _ c.cells_of-cells.ensures.cells (λ e. let h = c.if-t-fixed.true in omega (arith, e)) }
 
 pub returns-then-count_in-fixed : goal.returns-then-count_in-fixed
 returns-then-count_in-fixed c =
-    record { refused = refused_count _ _ c.requires.kind c.requires.first c.requires.last _ c.cells_of-cells.ensures.cells _ c.count_in.ensures.count c.if-count_in-fixed.true }
+    record { refused = refused_count _ _ c.requires.kind c.requires.first c.requires.last _ c.cells_of-cells.ensures.cells _ c.count_in.ensures.count (λ e. let h = c.if-count_in-fixed.true in omega (arith, e)) }
 
 pub fields_ok-requires : goal.fields_ok-requires
 fields_ok-requires c =
     record {
-      room = data_room _ _ c.requires.kind c.requires.first c.requires.last _ c.cells_of-cells.ensures.cells _ c.count_in.ensures.count c.if-t-fixed.false c.if-count_in-fixed.false;
+      room = data_room _ _ c.requires.kind c.requires.first c.requires.last _ c.cells_of-cells.ensures.cells (let l = c.if-t-fixed.false in omega arith);
       last = c.requires.last;
     }
 
