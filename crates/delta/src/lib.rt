@@ -78,7 +78,7 @@ impl DeltaOp {
         }
     }
 
-    // The same of a record whose numbers are those of a delta.
+    // `ValidDelta::apply_to` of a record whose numbers are those of a delta.
     pub fn apply_to(self, v: Number) -> Option<Number>
         requires is_delta { valid (exact self) ≡ true }
         ensures applies { result ≡ applied_of (apply_to (exact self) (value_of v)) }
@@ -86,7 +86,7 @@ impl DeltaOp {
         ValidDelta::new(self).apply_to(v)
     }
 
-    // The same of two such records.
+    // `ValidDelta::merge_with_previous_delta` of two such records.
     pub fn merge_with_previous_delta(self, previous: DeltaOp) -> Option<ValidDelta>
         requires is_delta { valid (exact self) ≡ true }
         requires previous_is_delta { valid (exact previous) ≡ true }
