@@ -36,9 +36,10 @@ take_next : (xs : List ℕ) (k : ℕ) → k < length xs → take (k + 1) xs ≡ 
 take_next xs k h = take-add k 1 xs ∙ ap (λ (l : List ℕ). take k xs ++ take 1 l) (drop-cons xs k 0 h)
 
 -- One more byte of xs is put.
-pub puts_next : {m : ℕ} (o p q : Output m) (xs : List ℕ) (k d : ℕ) → k < length xs → get_or xs k 0 ≡ d → Puts o p (take k xs) → Puts p q (d ∷ [])
-    → Puts o q (take (k + 1) xs)
-puts_next o p q xs k d h e x y = rw (take_next xs k h, e) (puts_then o p q (take k xs) (d ∷ []) x y)
+pub sets_next : (l m : List ℕ) (i : ℕ) (xs : List ℕ) (k d : ℕ) → k < length xs → get_or xs k 0 ≡ d → m ≡ sets l i (take k xs) → set m (i + k) d ≡ sets l i (take (k + 1) xs)
+sets_next l m i xs k d h e x =
+    let short : length (take k xs) ≡ k = simp length-take (omega arith) in
+    rw (take_next xs k h, e) (sets_then l m i (i + k) (take k xs) (d ∷ []) x (omega (arith, short)))
 
 -- ---- digits
 
@@ -76,9 +77,9 @@ hex_digit w (suc (suc (suc (suc (suc (suc (suc zero))))))) h = ap (λ (k : ℕ).
 hex_digit w (suc (suc (suc (suc (suc (suc (suc (suc k)))))))) h = absurd (omega arith)
 
 -- All 8 digits are put.
-pub hex_done : {m : ℕ} (o p : Output m) (w k : ℕ) → k ≡ 8 → Puts o p (take k (hex_word w)) → Puts o p (hex_word w)
+pub hex_done : {m : ℕ} (o p : Output m) (w k : ℕ) → k ≡ 8 → p.bytes ≡ sets o.bytes o.put (take k (hex_word w)) → p.put ≡ o.put + 8 → p.sent ≡ o.sent → Puts o p (hex_word w)
 unfolding hex_word
-hex_done o p w k e x = rw e at x
+hex_done o p w k e x put sent = record { bytes = rw e at x; put = put; sent = sent }
 
 -- ---- words with single spaces
 

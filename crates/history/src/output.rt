@@ -74,9 +74,12 @@ impl<const N: usize> Output<N> {
         requires room { self.old.put + 8 ≤ N }
         ensures puts { Puts self.old self.new (hex_word w) }
     {
-        for k in 0..8u32 {
-            self.push(digit((w >> (28 - 4 * k)) % 16));
+        // The count goes up once: at each digit it would go through memory.
+        let at = self.put;
+        for k in 0..8usize {
+            self.bytes[at + k] = digit((w >> (28 - 4 * k)) % 16);
         }
+        self.put = at + 8;
     }
 
     // Puts each word after a space.

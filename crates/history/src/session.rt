@@ -112,8 +112,9 @@ impl<const BLOCK: usize, const WORDS: usize, const STORE: usize> Session<BLOCK, 
 
     // Makes turns until there is no more to answer and nothing waits, or a write fails.
     pub fn run<R: Read, W: Write>(&mut self, reader: &mut R, writer: &mut W) -> io::Result<()>
-        ensures ran { state_of self.old false ≡ start → Ran (view_in self.old) (state_of self.new (is_err result)) (view_in self.new) }
-        ensures moved { state_of self.old false ≡ start → RanBy (R.remaining reader.old) (R.remaining reader.new) (W.contents writer.old) (W.contents writer.new) (view_in self.old) (state_of self.new (is_err result)) (view_in self.new) }
+        requires start { state_of self.old false ≡ start }
+        ensures ran { Ran (view_in self.old) (state_of self.new (is_err result)) (view_in self.new) }
+        ensures moved { RanBy (R.remaining reader.old) (R.remaining reader.new) (W.contents writer.old) (W.contents writer.new) (view_in self.old) (state_of self.new (is_err result)) (view_in self.new) }
     {
         // Kept: it counts nothing: each turn decides what is left to do.
         while !self.stopped || self.output.waiting() > 0 {

@@ -1,5 +1,4 @@
 use Rattle.std.proofs.Common.{arith, ◌≡◌, true, false, sym, refl, subst}
-use Rattle.history.specs.State.{start}
 use Rattle.history.specs.Moved.{RanBy}
 use Rattle.history.specs.Session.{state_of, view_in}
 use Rattle.history.proofs.MovedLaws.{by_none, by_then}
@@ -32,19 +31,19 @@ returns-in_err-turn g c =
     by_then had _ has held _ holds (state_of x false) x.input.bytes (view_in x) x.output.bytes (state_of y false) y.input.bytes (view_in y) y.output.bytes
     (state_of z true) z.input.bytes (view_in z) z.output.bytes c.loop-self.invariant refl c.in_err-turn.ensures.moved
     in
-    let all = λ (first : state_of x false ≡ start).
+    let all =
     subst (λ failed. RanBy had has held holds (view_in x) (state_of z failed) (view_in z)) (sym c.from_residual.ensures.0)
-    (ran_failed had has held holds x.input.bytes (view_in x) x.output.bytes (state_of x false) first (state_of z true) z.input.bytes (view_in z) z.output.bytes
+    (ran_failed had has held holds x.input.bytes (view_in x) x.output.bytes (state_of x false) c.requires.start (state_of z true) z.input.bytes (view_in z) z.output.bytes
     turns refl)
     in
-    record { ran = λ first. (all first).ran; moved = all }
+    record { ran = all.ran; moved = all }
 
 pub returns : goal.returns
 returns g c =
     let x = c.args.self.now in
     let y = c.loop-self.self in
-    let all = λ (first : state_of x false ≡ start).
-    ran_stopped _ _ _ _ x.input.bytes (view_in x) x.output.bytes (state_of x false) first (state_of y false) y.input.bytes (view_in y) y.output.bytes
+    let all =
+    ran_stopped _ _ _ _ x.input.bytes (view_in x) x.output.bytes (state_of x false) c.requires.start (state_of y false) y.input.bytes (view_in y) y.output.bytes
     c.loop-self.invariant c.if-not-self.false (omega (arith, c.waiting.ensures.waiting, c.if-waiting-gt0.false))
     in
-    record { ran = λ first. (all first).ran; moved = all }
+    record { ran = all.ran; moved = all }
