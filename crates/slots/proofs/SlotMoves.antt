@@ -1,11 +1,12 @@
 -- What moves of words leave: slots opened, closed, cleared and written.
 -- Assumes nothing.
 use mathlib.Core.Path.{◌≡◌, sym, ◌∙◌, ap}
-use mathlib.Core.List.{List, ◌++◌, append_assoc}
-use Prim.Native.Nat.{ℕ, ◌+◌, ◌-◌, ◌*◌, ◌≤◌, ◌<◌}
+use mathlib.Core.List.{List, [], ◌∷◌, ◌++◌, append_assoc}
+use Prim.Native.Nat.{ℕ, suc, ◌+◌, ◌-◌, ◌*◌, ◌≤◌, ◌<◌}
 use native.Mathlib.Omega.{arith}
-use lib.ListN.{length, take, drop, replicate, length-append, length-drop, length-replicate}
-use lib.Seq.{length-take-le, take_at, drop_at, drop-drop, take_all}
+use native.Mathlib.Numerals.{add-one}
+use lib.ListN.{length, get_or, take, drop, set, replicate, length-append, length-drop, length-replicate, take-append-drop}
+use lib.Seq.{length-take-le, take-suc, drop-cons, take_at, drop_at, drop-drop, set_at, take_all}
 use Rattle.slots.specs.Slots.{slot_width, opened, cleared, closed, written}
 use Rattle.types.specs.Units.{units_in}
 use Rattle.std.specs.List.{copy_within}
@@ -36,14 +37,40 @@ filled_cleared d z c i h e =
     ∙ rw (f, take_all {A = ℕ} (slot_width * c) (replicate (slot_width * c) 0) (omega (arith, length-replicate {A = ℕ} (slot_width * c) 0)))
     (append_assoc (take (slot_width * i) d) (replicate (slot_width * c) 0) (drop (slot_width * (i + c)) d))
 
-pub copied_written : (d z : List ℕ) (i : ℕ) (u : List ℕ) → i < units_in (length d) → z ≡ u → length u ≡ slot_width →
-    put_mid (slot_width * i) (slot_width * i + slot_width - slot_width * i) d z ≡ written i u d
-unfolding written
-copied_written d z i u h e l =
-    let inside : slot_width * (i + 1) ≤ length d = slots_inside (i + 1) (length d) (omega arith) in
+-- The first n words of `w` written over those of `d` from index `at`.
+unfoldable pub copied : List ℕ → ℕ → List ℕ → ℕ → List ℕ
+copied d at w n = take at d ++ (take n w ++ drop (at + n) d)
+
+pub copied_none : (d : List ℕ) (at : ℕ) (w : List ℕ) → d ≡ copied d at w 0
+unfolding copied
+copied_none d at w =
+    let e : at + 0 ≡ at = omega arith in
+    rw e (sym (take-append-drop at d))
+
+-- one word more
+pub copied_more : (d : List ℕ) (at : ℕ) (w : List ℕ) (j : ℕ) → at + j < length d → j < length w →
+    set (copied d at w j) (at + j) (get_or w j 0) ≡ copied d at w (j + 1)
+unfolding copied
+copied_more d at w j inside some =
+    let p : List ℕ = take at d ++ take j w in
+    let z : List ℕ = drop (suc (at + j)) d in
+    let size : length p ≡ at + j =
+    length-append (take at d) (take j w) ∙ rw (length-take-le at d (omega arith), length-take-le j w (omega arith))
+    in
+    let e : take at d ++ (take j w ++ drop (at + j) d) ≡ p ++ (get_or d (at + j) 0 ∷ z) =
+    sym (append_assoc (take at d) (take j w) (drop (at + j) d)) ∙ ap (λ (l : List ℕ). p ++ l) (drop-cons d (at + j) 0 inside)
+    in
+    let f : at + (j + 1) ≡ suc (at + j) = omega arith in
+    let g : take (j + 1) w ≡ take j w ++ (get_or w j 0 ∷ []) = rw (add-one j) (take-suc w j 0 some) in
+    rw (e, set_at p (get_or d (at + j) 0) z (get_or w j 0) (at + j) size, f, g)
+    (append_assoc (take at d) (take j w) (get_or w j 0 ∷ z)
+    ∙ ap (λ (l : List ℕ). take at d ++ l) (sym (append_assoc (take j w) (get_or w j 0 ∷ []) z)))
+
+pub copied_written : (d s : List ℕ) (i : ℕ) (u : List ℕ) (j : ℕ) → s ≡ copied d (slot_width * i) u j → j ≡ slot_width → length u ≡ slot_width → s ≡ written i u d
+unfolding copied written
+copied_written d s i u j a b e =
     let f : slot_width * i + slot_width ≡ slot_width * (i + 1) = omega arith in
-    put_mid-paste (slot_width * i) (slot_width * i + slot_width - slot_width * i) d z u slot_width e (omega arith) (sym l)
-    ∙ rw (f, take_all slot_width u (omega arith)) (append_assoc (take (slot_width * i) d) u (drop (slot_width * (i + 1)) d))
+    rw (a, b, f, take_all slot_width u (omega arith))
 
 pub shift : (p s : List ℕ) (b k c n : ℕ) → length p ≡ b → c + k ≡ n → drop (b + k) (p ++ drop c s) ≡ drop n s
 shift p s b k c n e f = sym (drop-drop k b (p ++ drop c s)) ∙ rw (drop_at p (drop c s) b e) (drop-drop k c s ∙ ap (λ (m : ℕ). drop m s) f)

@@ -91,20 +91,33 @@ growth_err : (b : Bool) (x : Growth) (n : Refusal) → cond b (Ok x) (Err Commit
 growth_err true x n e = absurd (let z : ◌≡◌ {A = ℕ} 0 1 = cc in omega arith)
 growth_err false x n e = (refl, cc)
 
+-- each member counts once at most
+few : (ms : List Member) → (creations ms ≤ length ms) × (deletions ms ≤ length ms)
+unfolding creations deletions
+few [] = (omega arith, omega arith)
+few (m ∷ ms) = (go (is_creation m.value) (creations ms) (few ms).0, go (is_deletion m.value) (deletions ms) (few ms).1)
+  where
+    go : (b : Bool) (n : ℕ) → n ≤ length ms → cond b (suc n) n ≤ suc (length ms)
+    go true n h = omega arith
+    go false n h = omega arith
+
+-- the counts of all members, whether they pass or not
+pub counted_none : (ms : List Member) → ms ≡ [] → (0 ≡ creations ms) × (0 ≡ deletions ms)
+unfolding creations deletions
+counted_none ms e = (rw e refl, rw e refl)
+
+module _ (ms : List Member) (x : Growth) (c : x.creations ≡ creations ms) (d : x.deletions ≡ deletions ms) where
+  pub counted_few : length ms < most_tags → (x.creations < most_tags) × (x.deletions < most_tags)
+  counted_few l = (omega (arith, (few ms).0, c), omega (arith, (few ms).1, d))
+
+  pub counted_more : (m : Member) (all : List Member) → all ≡ m ∷ ms → (w : Growth) → w ≡ grown m.value x → (w.creations ≡ creations all) × (w.deletions ≡ deletions all)
+  unfolding grown creations deletions
+  counted_more m all is w e = (rw (e, is, c) refl, rw (e, is, d) refl)
+
 module _ (key : ℕ) (g : Committed) where
   pub growth_none : (ms : List Member) → ms ≡ [] → ◌≡◌ {A = Result Growth Refusal} (Ok (record { creations = 0; deletions = 0 })) (growth_of key g ms)
   unfolding growth_of creations deletions every
   growth_none ms e = rw e
-
-  -- each member counts once at most
-  few : (ms : List Member) → (creations ms ≤ length ms) × (deletions ms ≤ length ms)
-  unfolding creations deletions
-  few [] = (omega arith, omega arith)
-  few (m ∷ ms) = (go (is_creation m.value) (creations ms) (few ms).0, go (is_deletion m.value) (deletions ms) (few ms).1)
-    where
-      go : (b : Bool) (n : ℕ) → n ≤ length ms → cond b (suc n) n ≤ suc (length ms)
-      go true n h = omega arith
-      go false n h = omega arith
 
   module _ (ms : List Member) (r : Result Growth Refusal) (e : r ≡ growth_of key g ms) where
     pub growth_passes : (x : Growth) → r ≡ Ok x → (every (passes key g) ms ≡ true) × (x.creations ≡ creations ms) × (x.deletions ≡ deletions ms)
