@@ -8,8 +8,8 @@ ghost use Rattle.group_slots.specs.Layout.{group_valid};
 ghost use Rattle.mvhashmap.specs.Call.{stores, lent, sound, Calls};
 ghost use Rattle.mvhashmap.specs.Served.{is_data, CallsGroup};
 
-use crate::data::data_call;
-use crate::group::group_call;
+use crate::front::data::data_call;
+use crate::front::group::group_call;
 use group_slots::scan as group_scan;
 use request::data::data_refusal;
 use request::kind::Kind;

@@ -4,4 +4,5 @@
 pub mod answer;
 pub mod call;
 pub mod data;
+mod front;
 pub mod group;

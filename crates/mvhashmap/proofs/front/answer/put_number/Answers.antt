@@ -1,10 +1,10 @@
--- `mvhashmap::answer::put_number` meets its contract.
+-- `mvhashmap::front::answer::put_number` meets its contract.
 -- Assumes nothing.
 use Rattle.number.specs.Words.{digits}
 use Rattle.mvhashmap.proofs.AnswerPuts.{put_response}
 use mathlib.Core.Path.{refl}
 use native.Mathlib.Omega.{arith}
-use Rattle.mvhashmap.proofs.answer.put_number.Goals as goal
+use Rattle.mvhashmap.proofs.front.answer.put_number.Goals as goal
 
 pub returns : goal.returns
 unfolding digits

@@ -1,10 +1,10 @@
--- `mvhashmap::data::fetch_data` meets its contract.
+-- `mvhashmap::front::data::fetch_data` meets its contract.
 -- Assumes nothing.
 use mathlib.Core.Path.{refl}
 use native.Mathlib.Omega.{arith}
 use Rattle.mvhashmap.proofs.ServedData.{some_wrote, serves_write}
 use Rattle.mvhashmap.proofs.AskedData.{words_inside, data_served, asks_fetch}
-use Rattle.mvhashmap.proofs.data.fetch_data.Goals as goal
+use Rattle.mvhashmap.proofs.front.data.fetch_data.Goals as goal
 
 pub bounds-t-1 : goal.bounds-t-1
 bounds-t-1 c = omega (arith, words_inside _ 6 c.requires.asked (omega arith) (omega arith))

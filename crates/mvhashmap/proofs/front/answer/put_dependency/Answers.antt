@@ -1,9 +1,9 @@
--- `mvhashmap::answer::put_dependency` meets its contract.
+-- `mvhashmap::front::answer::put_dependency` meets its contract.
 -- Assumes nothing.
 use Rattle.mvhashmap.proofs.AnswerPuts.{put_response}
 use mathlib.Core.Path.{refl}
 use native.Mathlib.Omega.{arith}
-use Rattle.mvhashmap.proofs.answer.put_dependency.Goals as goal
+use Rattle.mvhashmap.proofs.front.answer.put_dependency.Goals as goal
 
 pub returns : goal.returns
 returns c =

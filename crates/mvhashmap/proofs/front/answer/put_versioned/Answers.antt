@@ -1,8 +1,8 @@
--- `mvhashmap::answer::put_versioned` meets its contract.
+-- `mvhashmap::front::answer::put_versioned` meets its contract.
 -- Assumes nothing.
 use Rattle.mvhashmap.proofs.AnswerPuts.{versioned_at_base, versioned_at_index}
 use native.Mathlib.Omega.{arith}
-use Rattle.mvhashmap.proofs.answer.put_versioned.Goals as goal
+use Rattle.mvhashmap.proofs.front.answer.put_versioned.Goals as goal
 
 pub returns-in-Err : goal.returns-in-Err
 returns-in-Err c =

@@ -1,4 +1,4 @@
--- `mvhashmap::data::rare_call` meets its contract.
+-- `mvhashmap::front::data::rare_call` meets its contract.
 -- Assumes nothing.
 use native.Mathlib.Omega.{arith}
 use Rattle.versioned_data.proofs.Passed.{passed}
@@ -9,7 +9,7 @@ use Rattle.mvhashmap.proofs.PartLaws.{value_part, part_inside}
 use Rattle.mvhashmap.proofs.ServedKinds.{asked_as, rare_last}
 use Rattle.mvhashmap.proofs.AnswerDones.{set_base_value_done, add_delta_done, mark_estimate_done}
 use Rattle.mvhashmap.proofs.AskedData.{words_inside, base_inside, base_ok, delta_inside, delta_ok_lem, data_served, materialize_served, asks_base, asks_add_delta, asks_estimate, asks_materialize}
-use Rattle.mvhashmap.proofs.data.rare_call.Goals as goal
+use Rattle.mvhashmap.proofs.front.data.rare_call.Goals as goal
 
 pub bounds-t-1 : goal.bounds-t-1
 bounds-t-1 c = omega (arith, words_inside _ _ c.requires.asked c.requires.some c.requires.«data»)

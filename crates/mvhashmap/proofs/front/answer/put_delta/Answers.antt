@@ -1,9 +1,9 @@
--- `mvhashmap::answer::put_delta` meets its contract.
+-- `mvhashmap::front::answer::put_delta` meets its contract.
 -- Assumes nothing.
 use Rattle.mvhashmap.proofs.AnswerPuts.{put_response}
 use Rattle.delta.proofs.DeltaFormat.{length_delta_words}
 use native.Mathlib.Omega.{arith}
-use Rattle.mvhashmap.proofs.answer.put_delta.Goals as goal
+use Rattle.mvhashmap.proofs.front.answer.put_delta.Goals as goal
 
 pub returns : goal.returns
 returns c =

@@ -1,11 +1,11 @@
--- `mvhashmap::data::fetch_other` meets its contract.
+-- `mvhashmap::front::data::fetch_other` meets its contract.
 -- Assumes nothing.
 use native.Mathlib.Omega.{arith}
 use Rattle.versioned_data.proofs.Passed.{passed}
 use Rattle.mvhashmap.proofs.AnswerPuts.{data_put, data_refused}
 use Rattle.mvhashmap.proofs.ServedData.{serves_fetch}
 use Rattle.mvhashmap.proofs.AskedData.{words_inside, data_served, asks_fetch}
-use Rattle.mvhashmap.proofs.data.fetch_other.Goals as goal
+use Rattle.mvhashmap.proofs.front.data.fetch_other.Goals as goal
 
 pub bounds-t-1 : goal.bounds-t-1
 bounds-t-1 c = omega (arith, words_inside _ 6 c.requires.asked (omega arith) (omega arith))
