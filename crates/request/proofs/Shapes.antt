@@ -110,15 +110,11 @@ module _ (t : List ℕ) (head : Head) (e : head ≡ head_at t) where
       let is : (row_at t).tail ≡ alone = alone_told (row_at t).tail (sym (tail_is t head.row row_of_lem) ∙ f) in
       rw (count_is, fixed_is t head.row row_of_lem, is, add-zero) refl
 
-  module _ (each : ℕ) (by-set : head.row.tail ≡ BySet each) (set : Set) (s : set ≡ set_of (get_or t (head.row.fixed - 1) 0) (get_or t head.row.fixed 0)) (n : ℕ) (l : n ≡ length (tags_of set.low set.high)) where
+  module _ (each : ℕ) (by-set : head.row.tail ≡ BySet each) (set : Set) (n : ℕ) (l : n ≡ length (tags_of set.low set.high)) where
     is_tail : (row_at t).tail ≡ by_set each
     is_tail = is_set t head.row row_of_lem each by-set
 
-    tags_are : n ≡ length (tags_at (row_at t).fixed t)
-    unfolding tags_at
-    tags_are =
-        l ∙ ap (λ (x : Set). length (tags_of x.low x.high)) s ∙ rw (fixed_is t head.row row_of_lem) refl
-
+    -- of any set
     pub set_fits : head.row.fixed + each * n ≤ longest_count
     unfolding longest_of
     set_fits =
@@ -126,9 +122,15 @@ module _ (t : List ℕ) (head : Head) (e : head ≡ head_at t) where
         let longest = rw is_tail at (row_at_bounds t).longest_le in
         omega (arith, fixed_is t head.row row_of_lem, set_longest each n few, longest)
 
-    pub counts_set : eqb head.count (head.row.fixed + each * n) ≡ count_ok (row_at t).tail (row_at t).fixed t
-    unfolding count_ok tail_ok tail_length
-    counts_set = rw (count_is, fixed_is t head.row row_of_lem, is_tail, tags_are) refl
+    module _ (s : set ≡ set_of (get_or t (head.row.fixed - 1) 0) (get_or t head.row.fixed 0)) where
+      tags_are : n ≡ length (tags_at (row_at t).fixed t)
+      unfolding tags_at
+      tags_are =
+          l ∙ ap (λ (x : Set). length (tags_of x.low x.high)) s ∙ rw (fixed_is t head.row row_of_lem) refl
+
+      pub counts_set : eqb head.count (head.row.fixed + each * n) ≡ count_ok (row_at t).tail (row_at t).fixed t
+      unfolding count_ok tail_ok tail_length
+      counts_set = rw (count_is, fixed_is t head.row row_of_lem, is_tail, tags_are) refl
 
   module _ (place most each : ℕ) (by-count : head.row.tail ≡ ByCount place most each) where
     counted_tail : (row_at t).tail ≡ by_count place most each

@@ -25,15 +25,15 @@ bounds-t-fixed-in-BySet c = fixed_inside _ _ (row_of_lem _ _ c.requires.head) c.
 
 pub overflow_mul-result : goal.overflow_mul-result
 overflow_mul-result c =
-    record { fits = omega (arith, set_fits _ _ c.requires.head _ c.in-BySet.is _ refl _ c.len.ensures.counted) }
+    record { fits = omega (arith, set_fits _ _ c.requires.head _ c.in-BySet.is _ _ c.len.ensures.counted) }
 
 pub overflow_add-result : goal.overflow_add-result
 overflow_add-result c =
-    record { fits = omega (arith, set_fits _ _ c.requires.head _ c.in-BySet.is _ refl _ c.len.ensures.counted) }
+    record { fits = omega (arith, set_fits _ _ c.requires.head _ c.in-BySet.is _ _ c.len.ensures.counted) }
 
 pub returns-in-BySet : goal.returns-in-BySet
 returns-in-BySet c =
-    record { rule = counts_set _ _ c.requires.head _ c.in-BySet.is _ refl _ c.len.ensures.counted }
+    record { rule = counts_set _ _ c.requires.head _ c.in-BySet.is _ _ c.len.ensures.counted refl }
 
 pub bounds-t-place : goal.bounds-t-place
 bounds-t-place c =
