@@ -33,8 +33,14 @@ pub fn clear(s: &mut [u32], at: usize, n: usize)
 }
 
 // Whether words are all zero. It reads each: `all`, which stops at the first other word, is not vectorised.
+// Kept: by index. Tried: `fold` over the words. It proves, but knows no place, so that no edit of it can pass over a word by its place.
+#[tactic(auto, using(crate::proofs::Zeros::zero_begin))]
 pub fn all_zero(words: &[u32]) -> bool
     ensures zero { result ≡ all_zero words.now }
 {
-    words.iter().fold(true, |ok, &w| ok & (w == 0))
+    let mut ok = true;
+    for i in 0..words.len() {
+        ok &= words[i] == 0;
+    }
+    ok
 }
